@@ -1,0 +1,6 @@
+pub mod Spread
+pub mod Rival
+pub mod Helly
+pub mod Bound
+pub mod Shut
+pub mod Heaviest

@@ -1,0 +1,9 @@
+pub mod Summing
+pub mod Meanings
+pub mod Gaps
+pub mod Distinct
+pub mod Limits
+pub mod Bits
+pub mod FirstBest
+pub mod PerLink
+pub mod Laws
