@@ -1,7 +1,8 @@
 //! Cuts: two links that part the ring, and the units that have to pass one of them whatever the routing.
 
 ghost use mathlib.Core.Path.{_≡_};
-ghost use Prim.Native.Nat.{ℕ, _+_, _≤_};
+ghost use mathlib.Core.Bool.{cond};
+ghost use Prim.Native.Nat.{ℕ, _+_, _/_, _≤_};
 ghost use lib.ListN.{length};
 ghost use Rattle.ring.specs.Ring.{units, crosses, cut, lowerBound};
 ghost use Rattle.ring.specs.Choosing.{firstMost};
@@ -14,11 +15,16 @@ use ring::choosing::first_best;
 use ring::routes::is_within;
 use std::cmp::Reverse;
 
-/// Whether the demand's clockwise route holds exactly one of the two links. Then so does the other route: the demand has to pass one of them.
-fn crosses_cut(d: &Demand, first: u8, second: u8) -> bool
-    ensures { λ r. ⌜ r ≡ crosses (now (d .entry)) first second ⌝ }
+/// The units of the demand if its clockwise route holds exactly one of the two links, else 0. Then the other route holds one of them too: the
+/// demand has to pass one of them, and its units count once.
+fn units_across(d: &Demand, first: u8, second: u8) -> u16
+    ensures { λ r. ⌜ r ≡ cond (crosses (now (d .entry)) first second) (now (d .entry) .units) 0 ⌝ }
 {
-    is_within(d.lower, d.upper, first) != is_within(d.lower, d.upper, second)
+    if is_within(d.lower, d.upper, first) != is_within(d.lower, d.upper, second) {
+        u16::from(d.units)
+    } else {
+        0
+    }
 }
 
 /// The total of the cut at two links: the units of the demands whose clockwise route holds exactly one of them, each demand's once.
@@ -28,9 +34,7 @@ pub fn cut_total(demands: &[Demand], first: u8, second: u8) -> u16
 {
     let mut total: u16 = 0;
     for d in demands {
-        if crosses_cut(d, first, second) {
-            total += u16::from(d.units);
-        }
+        total += units_across(d, first, second);
     }
     total
 }
@@ -109,6 +113,13 @@ pub fn heaviest_cut(n: u8, demands: &[Demand]) -> Cut
     heaviest_of(n, demands, &mut firsts[0..usize::from(n - 1)])
 }
 
+/// Half of a total, rounded up.
+fn half_up(total: u16) -> u16
+    ensures { λ r. ⌜ r ≡ (total + 1) / 2 ⌝ }
+{
+    total.div_ceil(2)
+}
+
 /// The lower bound: half the heaviest cut's total, rounded up. No plan for the demands has fewer slots, since in every plan the load of a link is
 /// at most the slot count, and the two links of a cut bear its total.
 pub fn lower_bound(n: u8, demands: &[Demand]) -> u16
@@ -119,5 +130,5 @@ pub fn lower_bound(n: u8, demands: &[Demand]) -> u16
     ensures cuts { λ _. ⌜ Plans-pay-for-cuts n (now (demands .entry)) ⌝ }
     ensures loads { λ _. ⌜ Loads-fit-slots n (now (demands .entry)) ⌝ }
 {
-    heaviest_cut(n, demands).total.div_ceil(2)
+    half_up(heaviest_cut(n, demands).total)
 }

@@ -1,14 +1,26 @@
 //! The loads of the links where each demand goes by its chosen side.
 
 ghost use mathlib.Core.Path.{_≡_};
+ghost use mathlib.Core.Bool.{cond};
 ghost use Prim.Native.Nat.{ℕ, _≤_};
 ghost use lib.ListN.{length};
-ghost use Rattle.ring.specs.Sides.{routeLoad, routeUnits, perLink};
+ghost use Rattle.ring.specs.Sides.{holds, routeLoad, routeUnits, perLink};
 ghost use Rattle.bounds.specs.Measures.{leastLoaded};
 ghost use Rattle.bounds.specs.Claims.{Loads-fit-the-heaviest-cut, Shut-routes-load-cuts};
 use ring::Route;
 use ring::choosing::Best;
 use ring::choosing::first_best;
+
+/// The units of the route if it holds the link, else 0.
+fn units_over(d: &Route, link: u8) -> u16
+    ensures { λ r. ⌜ r ≡ cond (holds (now (d .entry)) link) (now (d .entry) .demand .units) 0 ⌝ }
+{
+    if d.holds_link(link) {
+        u16::from(d.demand.units)
+    } else {
+        0
+    }
+}
 
 /// The load of a link: the units of the routes that hold it.
 pub fn load_of(routes: &[Route], link: u8) -> u16
@@ -17,9 +29,7 @@ pub fn load_of(routes: &[Route], link: u8) -> u16
 {
     let mut sum: u16 = 0;
     for d in routes {
-        if d.holds_link(link) {
-            sum += u16::from(d.demand.units);
-        }
+        sum += units_over(d, link);
     }
     sum
 }

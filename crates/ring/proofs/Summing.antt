@@ -8,6 +8,9 @@ use lib.ListN.{length, getD, set, take, drop}
 use Rattle.std.specs.shelf.Lists.{All, sumBy}
 use Rattle.std.proofs.shelf.Sums.{sumBy-cons, sumBy-more, sumBy-drop-more, sumBy-set}
 use Rattle.ring.specs.Sums.{sumOf, one, countOf}
+use Rattle.ring.specs.Ring.{units}
+use Rattle.ring.specs.Sides.{Choice, routeUnits, routesBy}
+use Rattle.ring.specs.declared.Demand.{Demand}
 
 pub sum-zero : {X : Type 0} (xs : List X) → sumOf (λ x. 0) xs ≡ 0
 sum-zero [] = refl
@@ -86,8 +89,8 @@ part-le p f (x ∷ xs) = omega (arith, go (p x), part-le p f xs)
     go true = omega arith
     go false = omega arith
 
--- the next element of a loop, by how its test came out
-pub part-more : {X : Type 0} (p : X → Bool) (f : X → ℕ) (xs : List X) (i : ℕ) (d : X) (t : Bool) → i < length xs → p (getD xs i d) ≡ t →
-    sumOf (λ x. cond (p x) (f x) 0) (drop i xs) ≡ cond t (f (getD xs i d)) 0 + sumOf (λ x. cond (p x) (f x) 0) (drop (i + 1) xs)
-part-more p f xs i d t h q =
-    sum-drop-more (λ x. cond (p x) (f x) 0) xs i d h ∙ ap (λ b. cond b (f (getD xs i d)) 0 + sumOf (λ x. cond (p x) (f x) 0) (drop (i + 1) xs)) q
+-- ---- routes
+-- the units of the demands, whatever their sides
+pub route-units : (σ : Choice) (n : ℕ) (ds : List Demand) → routeUnits (routesBy σ n ds) ≡ units ds
+route-units σ n [] = refl
+route-units σ n (d ∷ ds) = omega (arith, route-units σ n ds)

@@ -1,9 +1,12 @@
 //! The first best of some candidates, written once for every kind of candidate.
 
 ghost use mathlib.Core.Path.{_≡_};
+ghost use mathlib.Core.Bool.{true, false};
+ghost use mathlib.Core.Logic.{_⊎_};
 ghost use Prim.Native.Nat.{ℕ, _<_};
 ghost use lib.ListN.{length};
 ghost use Rattle.std.specs.Options.{Cases as BySome};
+ghost use Rattle.std.specs.declared.cmp.Ordering.the-variants.{Less, Equal, Greater};
 ghost use Rattle.ring.specs.Choosing.{First-best, First-least, First-most};
 use std::cmp::Ordering;
 
@@ -12,6 +15,18 @@ use std::cmp::Ordering;
 pub struct Best<C, M> {
     pub candidate: C,
     pub measure: M,
+}
+
+/// Whether the first measure comes before the second in the order.
+fn comes_before<M: Ord>(x: &M, y: &M) -> bool
+    ensures less { λ r. ⌜ (r ≡ true → M·Ord .orders (now (x .entry)) (now (y .entry)) Less) ⌝ }
+    ensures not_less { λ r. ⌜ (r ≡ false → (M·Ord .orders (now (x .entry)) (now (y .entry)) Equal) ⊎ (M·Ord .orders (now (x .entry)) (now (y .entry)) Greater)) ⌝ }
+{
+    match x.cmp(y) {
+        Ordering::Less => true,
+        Ordering::Equal => false,
+        Ordering::Greater => false,
+    }
 }
 
 /// The first candidate that no other beats, where one beats another if its measure comes first in the order; none of no candidates.
@@ -24,10 +39,8 @@ pub fn first_best<C, M: Ord>(all: &[Best<C, M>]) -> Option<&Best<C, M>>
     }
     let mut best = 0;
     for i in 1..all.len() {
-        match all[i].measure.cmp(&all[best].measure) {
-            Ordering::Less => best = i,
-            Ordering::Equal => {}
-            Ordering::Greater => {}
+        if comes_before(&all[i].measure, &all[best].measure) {
+            best = i;
         }
     }
     Some(&all[best])

@@ -8,16 +8,13 @@ use Rattle.std.proofs.shelf.Lists.{take-more, take-more-set, take-all, map-appe
 use Rattle.ring.specs.Sides.{Choice, routeBy, routesBy}
 use Rattle.ring.specs.declared.Demand.{Demand}
 use Rattle.ring.specs.declared.Route.{Route}
-use Rattle.ring.specs.declared.Side.{Side}
 
-pub sides-more : (σ : Choice) (n : ℕ) (ds : List Demand) (routes : List Route) (i : ℕ) (z : Demand) (s : Side) → i < length ds → length routes ≡ length ds →
-    s ≡ σ n (getD ds i z .lower) (getD ds i z .upper) → take i routes ≡ routesBy σ n (take i ds) →
-    take (i + 1) (set routes i (record { demand = getD ds i z; side = s })) ≡ routesBy σ n (take (i + 1) ds)
-sides-more σ n ds routes i z s lt same is h =
-    let d : Demand = getD ds i z in
-    take-more-set routes i (record { demand = d; side = s }) (omega arith)
-    ∙ ap₂ (λ (r : List Route) (t : Side). r ++ record { demand = d; side = t } ∷ []) h is
-    ∙ sym (map-append (routeBy σ n) (take i ds) (d ∷ []))
+pub sides-more : (σ : Choice) (n : ℕ) (ds : List Demand) (routes : List Route) (i : ℕ) (z : Demand) (r : Route) → i < length ds → length routes ≡ length ds →
+    r ≡ routeBy σ n (getD ds i z) → take i routes ≡ routesBy σ n (take i ds) → take (i + 1) (set routes i r) ≡ routesBy σ n (take (i + 1) ds)
+sides-more σ n ds routes i z r lt same is h =
+    take-more-set routes i r (omega arith)
+    ∙ ap₂ (λ (rs : List Route) (q : Route). rs ++ q ∷ []) h is
+    ∙ sym (map-append (routeBy σ n) (take i ds) (getD ds i z ∷ []))
     ∙ ap (routesBy σ n) (sym (take-more ds i z lt))
 
 pub sides-all : (σ : Choice) (n : ℕ) (ds : List Demand) (routes : List Route) (i : ℕ) → length ds ≤ i → length routes ≡ length ds →

@@ -11,7 +11,7 @@ ghost use mathlib.Core.Path.{_≡_};
 ghost use Prim.Native.Nat.{ℕ};
 ghost use lib.ListN.{length};
 ghost use Rattle.ring.specs.declared.Side.{Side};
-ghost use Rattle.ring.specs.Sides.{Parallel, Elsewhere, onRing, routesBy, shortSide, shut as shutSide, lightSide};
+ghost use Rattle.ring.specs.Sides.{Parallel, Elsewhere, onRing, routeBy, routesBy, shortSide, shut as shutSide, lightSide};
 ghost use Rattle.rules.specs.Law.{Long-ways-break-the-law};
 ghost use Rattle.ring.proofs.Laws.{short-parallel, short-elsewhere, shut-parallel, shut-elsewhere, light-parallel, light-elsewhere};
 use ring::Demand;
@@ -37,16 +37,23 @@ pub trait Rule {
         ensures { λ s. ⌜ s ≡ side (now (self .entry)) n lower upper ⌝ };
 }
 
+/// The demand on the side that the rule chooses for it.
+pub fn route_by<R: Rule>(n: u8, demand: Demand, rule: &R) -> Route
+    ensures { λ r. ⌜ r ≡ routeBy (side (now (rule .entry))) n demand ⌝ }
+{
+    Route {
+        demand,
+        side: rule.choose(n, demand.lower, demand.upper),
+    }
+}
+
 /// Puts each demand on the side that the rule chooses for it. `routes` has a place for each demand.
 pub fn choose_routes<R: Rule>(n: u8, demands: &[Demand], rule: &R, routes: &mut [Route])
     requires { ⌜ length (now routes) ≡ length (now demands) ⌝ }
     ensures { λ _. ⌜ now (routes .exit) ≡ routesBy (side (now (rule .entry))) n (now (demands .entry)) ⌝ }
 {
     for (i, d) in demands.iter().enumerate() {
-        routes[i] = Route {
-            demand: *d,
-            side: rule.choose(n, d.lower, d.upper),
-        };
+        routes[i] = route_by(n, *d, rule);
     }
 }
 

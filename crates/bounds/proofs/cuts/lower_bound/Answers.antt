@@ -9,8 +9,8 @@ returns c =
     let ds = c .args .demands .now in
     let top = c .heaviest-cut .ensures .heaviest .greatest in
     record {
-      value = omega (arith, c .div-ceil .ensures, top);
-      least = λ apart rival plan. omega (arith, c .div-ceil .ensures, top, heaviest-bound n ds rival apart plan);
+      value = omega (arith, c .half-up .ensures, top);
+      least = λ apart rival plan. omega (arith, c .half-up .ensures, top, heaviest-bound n ds rival apart plan);
       cuts = plans-pay-for-cuts n ds;
       loads = loads-fit-slots n ds;
     }
