@@ -30,6 +30,7 @@ abbrev pub over : ℕ → ℕ → ℕ → ℕ → Bool
 over side i j e = cond (eqb side 0) (within i j e) (not (within i j e))
 
 -- ---- cuts
+-- whether exactly one of two tests passes
 abbrev pub differ : Bool → Bool → Bool
 differ true b = not b
 differ false b = b
@@ -108,6 +109,7 @@ rowOver (d ∷ ds) r e = cond (eqb (d .number) (r .demand)) (over (r .side) (d .
 abbrev pub load : List Demand → List Row → ℕ → ℕ
 load ds rows e = countOf (λ r. rowOver ds r e) rows
 
+-- whether k stands in the list
 abbrev pub has : ℕ → List ℕ → Bool
 has k [] = false
 has k (x ∷ xs) = eqb k x || has k xs

@@ -1,12 +1,11 @@
 //! Prints the figures of a sample ring: six nodes, with one unit between each two neighbours.
 //!
-//! For each of three routing rules it shows the side and the links of each demand and the loads of the links; then the heaviest cut and the
-//! lower bound, which no rule can beat. All figures come from the library's calls.
+//! For each of three routing rules it shows the side and the links of each demand, the loads of the links, and the rows of the plan that is drawn;
+//! then the plan with the best link shut; then the heaviest cut and the lower bound, which no plan can beat. All figures come from the library's calls.
 
 ghost use mathlib.Core.Path.{_≡_};
 ghost use Prim.Native.Nat.{_≤_};
-ghost use lib.ListN.{length};
-ghost use Rattle.ring.specs.Ring.{units};
+ghost use Rattle.ring.specs.Ring.{Within-limits};
 ghost use Rattle.ring.specs.Sides.{routeUnits};
 use bounds::cuts::heaviest_cut;
 use bounds::cuts::lower_bound;
@@ -14,6 +13,7 @@ use bounds::loads::least_loaded;
 use bounds::loads::link_loads;
 use ring::Demand;
 use ring::Route;
+use ring::Row;
 use ring::Side;
 use rules::Rule;
 use rules::ShortSide;
@@ -23,35 +23,65 @@ use rules::WeightsRule;
 use rules::choose_routes;
 use rules::shut::ShutLink;
 use rules::weights::Weights;
+use slotting::best_link;
+use slotting::draw;
 use std::error::AnyError;
 
 /// The nodes of the ring, and as many links.
 const NODES: u8 = 6;
 
-/// One unit between the nodes `lower` and `upper`.
-fn unit(number: u16, lower: u8, upper: u8) -> Demand
-    ensures { λ r. ⌜ r ≡ record { number = number; lower = lower; upper = upper; units = 1 } ⌝ }
-{
-    Demand {
-        number,
-        lower,
-        upper,
-        units: 1,
-    }
-}
+/// A place for a route, to be filled.
+const NO_ROUTE: Route = Route {
+    demand: Demand {
+        number: 0,
+        lower: 0,
+        upper: 0,
+        units: 0,
+    },
+    side: Side::Clockwise,
+};
 
 /// One unit between each two neighbours. The neighbours 6 and 1 are the ends 1 and 6, the lower first.
 fn neighbours() -> [Demand; 6]
-    ensures few { λ r. ⌜ length r ≡ 6 ⌝ }
-    ensures units { λ r. ⌜ units r ≡ 6 ⌝ }
+    ensures { λ r. ⌜ Within-limits 6 r ⌝ }
 {
     [
-        unit(1, 1, 2),
-        unit(2, 2, 3),
-        unit(3, 3, 4),
-        unit(4, 4, 5),
-        unit(5, 5, 6),
-        unit(6, 1, 6),
+        Demand {
+            number: 1,
+            lower: 1,
+            upper: 2,
+            units: 1,
+        },
+        Demand {
+            number: 2,
+            lower: 2,
+            upper: 3,
+            units: 1,
+        },
+        Demand {
+            number: 3,
+            lower: 3,
+            upper: 4,
+            units: 1,
+        },
+        Demand {
+            number: 4,
+            lower: 4,
+            upper: 5,
+            units: 1,
+        },
+        Demand {
+            number: 5,
+            lower: 5,
+            upper: 6,
+            units: 1,
+        },
+        Demand {
+            number: 6,
+            lower: 1,
+            upper: 6,
+            units: 1,
+        },
     ]
 }
 
@@ -104,24 +134,60 @@ fn print_loads(rt: &LibcRuntime, routes: &[Route]) -> Result<(), AnyError>
     Ok(())
 }
 
-/// Prints what a rule makes of the demands: their routes, and the loads of the links.
-fn print_rule<R: Rule>(rt: &LibcRuntime, demands: &[Demand], rule: &R) -> Result<(), AnyError>
-    requires few { ⌜ length (now demands) ≤ 128 ⌝ }
-    requires units { ⌜ units (now demands) ≤ 1024 ⌝ }
+/// Prints the rows of a plan, a line each, and the slot count.
+fn print_plan(rt: &LibcRuntime, rows: &[Row], slots: u16) -> Result<(), AnyError> {
+    print!(rt, "  rows, as number/side/slot:")?;
+    for row in rows {
+        let number = row.demand;
+        let side = row.side;
+        let slot = row.slot;
+        print!(rt, " {number}/{side}/{slot}")?;
+    }
+    println!(rt, "; slot count {slots}")?;
+    Ok(())
+}
+
+/// Prints the plan that is drawn by a rule.
+fn print_drawing<R: Rule>(rt: &LibcRuntime, demands: &[Demand], rule: &R) -> Result<(), AnyError>
+    requires { ⌜ Within-limits 6 (now demands) ⌝ }
 {
-    let mut places = [Route {
-        demand: unit(0, 0, 0),
-        side: Side::Clockwise,
-    }; 128];
+    let mut sheet = [0u16; 1024];
+    let mut rows = Vec::with_capacity(rt.alloc(), 1024)?;
+    let Ok(plan) = draw(NODES, demands, rule, &mut sheet, &mut rows) else {
+        unreachable()
+    };
+    print_plan(rt, rows.as_slice(), plan.slots)
+}
+
+/// Prints the plan that is drawn with the best link shut.
+fn print_best(rt: &LibcRuntime, demands: &[Demand]) -> Result<(), AnyError>
+    requires { ⌜ Within-limits 6 (now demands) ⌝ }
+{
+    let mut sheet = [0u16; 1024];
+    let mut rows = Vec::with_capacity(rt.alloc(), 1024)?;
+    let Ok(plan) = best_link(NODES, demands, &mut sheet, &mut rows) else {
+        unreachable()
+    };
+    let link = plan.link;
+    println!(rt, "\nBy the best link, which is link {link}:")?;
+    print_plan(rt, rows.as_slice(), plan.slots)
+}
+
+/// Prints what a rule makes of the demands: their routes, the loads of the links, and a plan.
+fn print_rule<R: Rule>(rt: &LibcRuntime, demands: &[Demand], rule: &R) -> Result<(), AnyError>
+    requires { ⌜ Within-limits 6 (now demands) ⌝ }
+{
+    let mut places = [NO_ROUTE; 128];
     let routes = &mut places[0..demands.len()];
     choose_routes(NODES, demands, rule, routes);
     print_routes(rt, routes)?;
-    print_loads(rt, routes)
+    print_loads(rt, routes)?;
+    print_drawing(rt, demands, rule)
 }
 
 /// Prints the heaviest cut and the lower bound, which are the same whatever the routing.
 fn print_cut(rt: &LibcRuntime, demands: &[Demand]) -> Result<(), AnyError>
-    requires { ⌜ units (now demands) ≤ 1024 ⌝ }
+    requires { ⌜ Within-limits 6 (now demands) ⌝ }
 {
     let cut = heaviest_cut(NODES, demands);
     let first = cut.first;
@@ -168,6 +234,7 @@ fn main(rt: LibcRuntime) -> Result<(), AnyError> {
     };
     print_weights(&rt, &weights)?;
     print_rule(&rt, &demands, &light)?;
+    print_best(&rt, &demands)?;
     println!(rt, "\nWhatever the routing:")?;
     print_cut(&rt, &demands)
 }
