@@ -1,7 +1,6 @@
 //! What slotting means, and what is proved of it. The code that slots is in other crates, whose contracts cite these definitions; here are the
 //! theorems on them, each as the contract of a function.
 
-ghost use mathlib.Core.Path.{_≡_};
 ghost use Rattle.drawn.specs.Claims.{Draws-well, Draws-best, Over-first, Slots-rise, Rows-load-links};
 
 /// What the definitions mean in other words: slotting is first fit throughout, the slots of a demand rise, and the rows over a link are its load.

@@ -1,16 +1,15 @@
 -- The slots that are written for a demand are those that hold a unit of it.
 use mathlib.Core.Path.{_≡_, refl, sym, _∙_, ap, ap₂, subst}
-use mathlib.Core.Bool.{Bool, true, false, cond, _&&_, _||_}
+use mathlib.Core.Bool.{Bool, true, false, cond, _||_}
 use mathlib.Core.Logic.{_⊎_, inl, inr, ⊎-elim, _≢_}
-use Prim.Native.Nat.{ℕ, zero, suc, _+_, _-_, _≤_}
+use Prim.Native.Nat.{ℕ, zero, suc, _+_, _≤_}
 use native.Mathlib.Omega.{arith}
 use lib.Dec.{eqb}
 use Rattle.std.specs.shelf.Lists.{List, [], _∷_, _++_, length, take, drop, folded, leading, replicate, map, joined, kept-by, All}
 use Rattle.ring.specs.Sums.{sumOf}
 use Rattle.std.proofs.shelf.Lists.{append-assoc, append-nil, length-replicate, length-take-le, take-at, drop-at, take-append-drop, nil-from-length, length-drop}
 use Rattle.ring.proofs.Summing.{sum-cons}
-use Rattle.std.proofs.shelf.Tests.{cond-true, cond-false, cases-bool, or-from, or-left, or-cases, or-parts, ne-eqb, eq-eqb, and-from, false≢true}
-use Rattle.ring.specs.Sides.{holds}
+use Rattle.std.proofs.shelf.Tests.{cond-true, cond-false, cases-bool, or-from, or-left, or-cases, or-parts, ne-eqb, eq-eqb, false≢true}
 use Rattle.ring.specs.declared.Route.{Route}
 use Rattle.drawn.specs.FirstFit.{taken, lowest, put}
 use Rattle.drawn.specs.Slotting.{hasUnit, shares, unitsOf, slotsOf, Valid, Distinct}

@@ -1,12 +1,12 @@
 -- Turn after turn.
 use mathlib.Core.Path.{_≡_, refl, sym, _∙_, ap, ap₂, subst}
 use mathlib.Core.Bool.{Bool, true, false, cond, not, _||_, or-assoc, or-false}
-use mathlib.Core.Logic.{_⊎_, ⊎-elim, _≢_}
+use mathlib.Core.Logic.{⊎-elim, _≢_}
 use Prim.Native.Nat.{ℕ, zero, suc, _+_, _-_, _≤_, _<_}
 use native.Mathlib.Omega.{arith}
 use lib.Dec.{eqb}
 use Rattle.std.specs.Iters.{counting}
-use Rattle.std.specs.shelf.Lists.{List, [], _∷_, _++_, length, getD, take, drop, folded, map, joined, kept-by, All}
+use Rattle.std.specs.shelf.Lists.{List, [], _∷_, _++_, length, take, drop, folded, map, joined, kept-by, All}
 use Rattle.ring.specs.Ring.{Link}
 use Rattle.ring.specs.Sums.{sumOf, countOf, some}
 use Rattle.std.proofs.shelf.Lists.{map-append, length-append, length-take-le, length-drop}

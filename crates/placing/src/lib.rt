@@ -4,7 +4,7 @@ pub mod rows;
 
 ghost use mathlib.Core.Path.{_≡_};
 ghost use mathlib.Core.Bool.{cond};
-ghost use Prim.Native.Nat.{ℕ, _+_, _-_, _<_, _≤_};
+ghost use Prim.Native.Nat.{_+_, _-_, _≤_};
 ghost use Rattle.std.specs.shelf.Lists.{length, folded};
 ghost use Rattle.ring.specs.Sides.{routeUnits};
 ghost use Rattle.sheet.specs.Marks.{used};

@@ -1,7 +1,7 @@
 //! The sheet of marks on which slots are given out: one mark a slot, with bit e - 1 set where a unit in that slot is over link e.
 
 ghost use mathlib.Core.Path.{_≡_};
-ghost use Prim.Native.Nat.{ℕ, _+_, _<_, _≤_};
+ghost use Prim.Native.Nat.{_+_, _<_, _≤_};
 ghost use Rattle.std.specs.shelf.Lists.{length, folded, replicate};
 ghost use Rattle.sheet.specs.Marks.{Blank, freeAt, marked, inTurn, used};
 

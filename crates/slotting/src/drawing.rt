@@ -2,17 +2,16 @@
 
 ghost use mathlib.Core.Path.{_≡_};
 ghost use mathlib.Core.List.{[]};
-ghost use Prim.Native.Nat.{ℕ, _≤_};
+ghost use Prim.Native.Nat.{_≤_};
 ghost use Rattle.std.specs.shelf.Lists.{length};
 ghost use Rattle.std.specs.Of.Vec.{vec-items, vec-cap};
-ghost use Rattle.std.specs.Results.{Cases};
 ghost use Rattle.std.specs.Vec.{made};
 ghost use Rattle.ring.specs.Ring.{Within-limits, units, load, slotCount};
 ghost use Rattle.ring.specs.Sides.{perLink};
 ghost use Rattle.sheet.specs.Marks.{Blank};
 ghost use Rattle.drawn.specs.Slotting.{drawn};
 ghost use Rattle.drawn.specs.Claims.{Well-drawn};
-ghost use Rattle.slotting.specs.Answers.{Drew, Refused};
+ghost use Rattle.slotting.specs.Answers.{Draws};
 use crate::Slotted;
 use bounds::loads::link_loads;
 use placing::rows::write_rows;
@@ -93,7 +92,7 @@ fn draw_on<R: Rule>(
     requires limits { ⌜ Within-limits n (now demands) ⌝ }
     requires empty { ⌜ vec-items (now rows) ≡ [] ⌝ }
     requires room { ⌜ 1024 ≤ vec-cap (now rows) ⌝ }
-    ensures answer { λ r. ⌜ Cases r (λ s. Drew n (now (demands .entry)) (length (now (marks .entry))) (vec-items (now (rows .exit))) (drawn n (side (now (rule .entry))) (now (demands .entry))) (s .slots) (s .loads)) (λ e. Refused e (length (now (marks .entry))) (vec-items (now (rows .exit))) (vec-items (now (rows .entry)))) ⌝ }
+    ensures answer { λ r. ⌜ Draws n (now (demands .entry)) (drawn n (side (now (rule .entry))) (now (demands .entry))) (length (now (marks .entry))) (vec-items (now (rows .entry))) (vec-items (now (rows .exit))) r ⌝ }
     ensures room { λ _. ⌜ vec-cap (now (rows .exit)) ≡ vec-cap (now (rows .entry)) ⌝ }
 {
     if marks.len() < MARKS {
@@ -102,7 +101,7 @@ fn draw_on<R: Rule>(
     let mut routes = [NO_ROUTE; 128];
     let mut slots = [0u16; MARKS];
     let total = count_units(demands);
-    let drawn = lay_out(
+    let slotted = lay_out(
         n,
         demands,
         rule,
@@ -111,7 +110,7 @@ fn draw_on<R: Rule>(
         &mut slots[0..total],
         rows,
     );
-    Ok(drawn)
+    Ok(slotted)
 }
 
 /// Draws the rows on a sheet that is lent, and leaves it blank.
@@ -125,7 +124,7 @@ pub(crate) fn draw_lent<R: Rule>(
     requires limits { ⌜ Within-limits n (now demands) ⌝ }
     requires empty { ⌜ vec-items (now rows) ≡ [] ⌝ }
     requires room { ⌜ 1024 ≤ vec-cap (now rows) ⌝ }
-    ensures answer { λ r. ⌜ Cases r (λ s. Drew n (now (demands .entry)) (length (now (sheet .entry))) (vec-items (now (rows .exit))) (drawn n (side (now (rule .entry))) (now (demands .entry))) (s .slots) (s .loads)) (λ e. Refused e (length (now (sheet .entry))) (vec-items (now (rows .exit))) (vec-items (now (rows .entry)))) ⌝ }
+    ensures answer { λ r. ⌜ Draws n (now (demands .entry)) (drawn n (side (now (rule .entry))) (now (demands .entry))) (length (now (sheet .entry))) (vec-items (now (rows .entry))) (vec-items (now (rows .exit))) r ⌝ }
     ensures room { λ _. ⌜ vec-cap (now (rows .exit)) ≡ vec-cap (now (rows .entry)) ⌝ }
     ensures blank { λ _. ⌜ Blank (now (sheet .exit)) (length (now (sheet .entry))) ⌝ }
 {
@@ -147,7 +146,7 @@ pub fn draw<R: Rule>(
     requires limits { ⌜ Within-limits n (now demands) ⌝ }
     requires empty { ⌜ vec-items (now rows) ≡ [] ⌝ }
     requires room { ⌜ 1024 ≤ vec-cap (now rows) ⌝ }
-    ensures answer { λ r. ⌜ Cases r (λ s. Drew n (now (demands .entry)) (length (now (sheet .entry))) (vec-items (now (rows .exit))) (drawn n (side (now (rule .entry))) (now (demands .entry))) (s .slots) (s .loads)) (λ e. Refused e (length (now (sheet .entry))) (vec-items (now (rows .exit))) (vec-items (now (rows .entry)))) ⌝ }
+    ensures answer { λ r. ⌜ Draws n (now (demands .entry)) (drawn n (side (now (rule .entry))) (now (demands .entry))) (length (now (sheet .entry))) (vec-items (now (rows .entry))) (vec-items (now (rows .exit))) r ⌝ }
     ensures room { λ _. ⌜ vec-cap (now (rows .exit)) ≡ vec-cap (now (rows .entry)) ⌝ }
     ensures blank { λ _. ⌜ Blank (now (sheet .exit)) (length (now (sheet .entry))) ⌝ }
     ensures well { λ r. ⌜ made r (λ _. Well-drawn n (now (demands .entry)) (vec-items (now (rows .exit)))) ⌝ }

@@ -2,17 +2,16 @@
 
 ghost use mathlib.Core.Path.{_≡_};
 ghost use mathlib.Core.List.{[]};
-ghost use Prim.Native.Nat.{ℕ, _≤_};
+ghost use Prim.Native.Nat.{_≤_};
 ghost use Rattle.std.specs.shelf.Lists.{length};
 ghost use Rattle.std.specs.Of.Vec.{vec-items, vec-cap};
-ghost use Rattle.std.specs.Results.{Cases};
 ghost use Rattle.std.specs.Vec.{made};
 ghost use Rattle.ring.specs.Ring.{Within-limits};
 ghost use Rattle.ring.specs.Sides.{shut};
 ghost use Rattle.sheet.specs.Marks.{Blank};
 ghost use Rattle.drawn.specs.Slotting.{drawn, slotsShut, bestLink};
 ghost use Rattle.drawn.specs.Claims.{Best-drawn};
-ghost use Rattle.slotting.specs.Answers.{Drew, Refused, Tried};
+ghost use Rattle.slotting.specs.Answers.{Draws, Draws-shut, Tries};
 use crate::BestLink;
 use crate::Slotted;
 use crate::drawing::draw_lent;
@@ -36,7 +35,7 @@ fn draw_shut(
     requires link { ⌜ (1 ≤ link) × (link ≤ 16) ⌝ }
     requires empty { ⌜ vec-items (now rows) ≡ [] ⌝ }
     requires room { ⌜ 1024 ≤ vec-cap (now rows) ⌝ }
-    ensures answer { λ r. ⌜ Cases r (λ s. Drew n (now (demands .entry)) (length (now (sheet .entry))) (vec-items (now (rows .exit))) (drawn n (shut link) (now (demands .entry))) (s .slots) (s .loads)) (λ e. Refused e (length (now (sheet .entry))) (vec-items (now (rows .exit))) (vec-items (now (rows .entry)))) ⌝ }
+    ensures answer { λ r. ⌜ Draws n (now (demands .entry)) (drawn n (shut link) (now (demands .entry))) (length (now (sheet .entry))) (vec-items (now (rows .entry))) (vec-items (now (rows .exit))) r ⌝ }
     ensures room { λ _. ⌜ vec-cap (now (rows .exit)) ≡ vec-cap (now (rows .entry)) ⌝ }
     ensures blank { λ _. ⌜ Blank (now (sheet .exit)) (length (now (sheet .entry))) ⌝ }
 {
@@ -58,13 +57,13 @@ fn try_link(
     requires link { ⌜ (1 ≤ link) × (link ≤ 16) ⌝ }
     requires empty { ⌜ vec-items (now rows) ≡ [] ⌝ }
     requires room { ⌜ 1024 ≤ vec-cap (now rows) ⌝ }
-    ensures answer { λ r. ⌜ Cases r (λ slots. Tried (length (now (sheet .entry))) slots (slotsShut n (now (demands .entry)) link) (vec-items (now (rows .exit)))) (λ e. Refused e (length (now (sheet .entry))) (vec-items (now (rows .exit))) (vec-items (now (rows .entry)))) ⌝ }
+    ensures answer { λ r. ⌜ Tries (slotsShut n (now (demands .entry)) link) (length (now (sheet .entry))) (vec-items (now (rows .entry))) (vec-items (now (rows .exit))) r ⌝ }
     ensures room { λ _. ⌜ vec-cap (now (rows .exit)) ≡ vec-cap (now (rows .entry)) ⌝ }
     ensures blank { λ _. ⌜ Blank (now (sheet .exit)) (length (now (sheet .entry))) ⌝ }
 {
-    let drawn = draw_shut(n, demands, link, sheet, rows)?;
+    let slotted = draw_shut(n, demands, link, sheet, rows)?;
     rows.clear();
-    Ok(drawn.slots)
+    Ok(slotted.slots)
 }
 
 /// The best link to shut, of as many links as there are places for their trials. No rows are left.
@@ -79,7 +78,7 @@ fn try_links(
     requires empty { ⌜ vec-items (now rows) ≡ [] ⌝ }
     requires room { ⌜ 1024 ≤ vec-cap (now rows) ⌝ }
     requires trials { ⌜ length (now trials) ≡ n ⌝ }
-    ensures answer { λ r. ⌜ Cases r (λ link. Tried (length (now (sheet .entry))) link (bestLink n (now (demands .entry))) (vec-items (now (rows .exit)))) (λ e. Refused e (length (now (sheet .entry))) (vec-items (now (rows .exit))) (vec-items (now (rows .entry)))) ⌝ }
+    ensures answer { λ r. ⌜ Tries (bestLink n (now (demands .entry))) (length (now (sheet .entry))) (vec-items (now (rows .entry))) (vec-items (now (rows .exit))) r ⌝ }
     ensures room { λ _. ⌜ vec-cap (now (rows .exit)) ≡ vec-cap (now (rows .entry)) ⌝ }
     ensures blank { λ _. ⌜ Blank (now (sheet .exit)) (length (now (sheet .entry))) ⌝ }
 {
@@ -107,7 +106,7 @@ fn draw_best(
     requires limits { ⌜ Within-limits n (now demands) ⌝ }
     requires empty { ⌜ vec-items (now rows) ≡ [] ⌝ }
     requires room { ⌜ 1024 ≤ vec-cap (now rows) ⌝ }
-    ensures answer { λ r. ⌜ Cases r (λ b. (b .link ≡ bestLink n (now (demands .entry))) × Drew n (now (demands .entry)) (length (now (sheet .entry))) (vec-items (now (rows .exit))) (drawn n (shut (bestLink n (now (demands .entry)))) (now (demands .entry))) (b .slots) (b .loads)) (λ e. Refused e (length (now (sheet .entry))) (vec-items (now (rows .exit))) (vec-items (now (rows .entry)))) ⌝ }
+    ensures answer { λ r. ⌜ Draws-shut n (now (demands .entry)) (bestLink n (now (demands .entry))) (length (now (sheet .entry))) (vec-items (now (rows .entry))) (vec-items (now (rows .exit))) r ⌝ }
     ensures room { λ _. ⌜ vec-cap (now (rows .exit)) ≡ vec-cap (now (rows .entry)) ⌝ }
     ensures blank { λ _. ⌜ Blank (now (sheet .exit)) (length (now (sheet .entry))) ⌝ }
 {
@@ -116,11 +115,11 @@ fn draw_best(
         measure: 0u16,
     }; 16];
     let link = try_links(n, demands, sheet, rows, &mut trials[0..n as usize])?;
-    let drawn = draw_shut(n, demands, link, sheet, rows)?;
-    let loads = drawn.loads;
+    let slotted = draw_shut(n, demands, link, sheet, rows)?;
+    let loads = slotted.loads;
     Ok(BestLink {
         link,
-        slots: drawn.slots,
+        slots: slotted.slots,
         loads,
     })
 }
@@ -137,7 +136,7 @@ pub fn best_link(
     requires limits { ⌜ Within-limits n (now demands) ⌝ }
     requires empty { ⌜ vec-items (now rows) ≡ [] ⌝ }
     requires room { ⌜ 1024 ≤ vec-cap (now rows) ⌝ }
-    ensures answer { λ r. ⌜ Cases r (λ b. (b .link ≡ bestLink n (now (demands .entry))) × Drew n (now (demands .entry)) (length (now (sheet .entry))) (vec-items (now (rows .exit))) (drawn n (shut (bestLink n (now (demands .entry)))) (now (demands .entry))) (b .slots) (b .loads)) (λ e. Refused e (length (now (sheet .entry))) (vec-items (now (rows .exit))) (vec-items (now (rows .entry)))) ⌝ }
+    ensures answer { λ r. ⌜ Draws-shut n (now (demands .entry)) (bestLink n (now (demands .entry))) (length (now (sheet .entry))) (vec-items (now (rows .entry))) (vec-items (now (rows .exit))) r ⌝ }
     ensures room { λ _. ⌜ vec-cap (now (rows .exit)) ≡ vec-cap (now (rows .entry)) ⌝ }
     ensures blank { λ _. ⌜ Blank (now (sheet .exit)) (length (now (sheet .entry))) ⌝ }
     ensures best { λ r. ⌜ made r (λ b. Best-drawn n (now (demands .entry)) (b .link) (vec-items (now (rows .exit)))) ⌝ }

@@ -1,5 +1,4 @@
 use mathlib.Core.Path.{sym, subst}
-use Rattle.std.specs.Of.Vec.{vec-items}
 use Rattle.drawn.specs.Claims.{Well-drawn}
 use Rattle.drawn.proofs.Bears.{draws-well}
 use Rattle.slotting.proofs.Figures.{made-by}

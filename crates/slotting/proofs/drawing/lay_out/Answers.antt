@@ -1,10 +1,9 @@
-use mathlib.Core.Path.{_≡_, _∙_, ap}
+use mathlib.Core.Path.{_∙_, ap}
 use mathlib.Core.List.{_++_}
 use native.Mathlib.Omega.{arith}
 use lib.ListN.{length}
 use Rattle.std.specs.Of.Vec.{vec-items}
 use Rattle.ring.specs.Ring.{slotCount}
-use Rattle.drawn.specs.Slotting.{drawn}
 use Rattle.drawn.proofs.Bears.{draws-well}
 use Rattle.placing.specs.Drawing.{rowsFrom}
 use Rattle.placing.proofs.Lays.{ready-by, units-by, rows-drawn}

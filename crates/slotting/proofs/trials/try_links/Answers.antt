@@ -1,7 +1,7 @@
-use mathlib.Core.Path.{_≡_, refl, sym, ap, ap₂, _∙_}
+use mathlib.Core.Path.{_≡_, refl, ap, ap₂, _∙_}
 use Prim.Native.Nat.{ℕ, _+_, _<_}
 use native.Mathlib.Omega.{arith}
-use lib.ListN.{length, replicate}
+use lib.ListN.{replicate}
 use Rattle.ring.specs.declared.choosing.Best.{Best}
 use Rattle.ring.proofs.FirstBest.{first-by-least, filled-more, filled-all}
 use Rattle.drawn.specs.Slotting.{slotsShut}
