@@ -1,0 +1,4 @@
+pub mod RowsPass
+pub mod Links
+pub mod Sheet
+pub mod Onward

@@ -1,0 +1,4 @@
+//! What is printed of sample plan files, as tests.
+
+#[cfg(test)]
+mod tests;
