@@ -151,13 +151,19 @@ fn because(line: usize, refusal: Refusal) -> Option<PlanFault> {
     Some(PlanFault::Refused { line, refusal })
 }
 
+fn not_a_digit(line: usize, character: usize) -> Option<PlanFault> {
+    let fault = LineFault { line, character };
+    Some(PlanFault::OfFrame(FrameFault::Line(fault)))
+}
+
 fn wrong_figures() -> Option<PlanFault> {
     Some(PlanFault::Figures { line: 7 })
 }
 
 #[test]
-fn plans_refused() -> Result<(), Fail> {
+fn files_refused() -> Result<(), Fail> {
     let cases = [
+        (24, b'A', not_a_digit(3, 3)),
         (7, b'2', because(1, Refusal::RingSize)),
         (31, b'5', because(3, Refusal::EndOutside { place: 2 })),
         (33, b'2', because(3, Refusal::CountWrong { line: 2 })),
