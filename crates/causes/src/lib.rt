@@ -66,72 +66,25 @@ pub fn cause_words(refusal: Refusal) -> &'static [u8]
 pub fn detail_of(refusal: Refusal) -> Detail
     ensures { λ r. ⌜ r ≡ detailOf refusal ⌝ }
 {
+    let mut detail = NOTHING;
     match refusal {
-        Refusal::EndOutside { place } => Detail {
-            place: Some(place),
-            ..NOTHING
-        },
-        Refusal::EndsFalling { place } => Detail {
-            place: Some(place),
-            ..NOTHING
-        },
-        Refusal::UnitsOutside { place } => Detail {
-            place: Some(place),
-            ..NOTHING
-        },
-        Refusal::NumberTaken { place } => Detail {
-            place: Some(place),
-            ..NOTHING
-        },
-        Refusal::BookFull { place } => Detail {
-            place: Some(place),
-            ..NOTHING
-        },
-        Refusal::UnitsPast { place } => Detail {
-            place: Some(place),
-            ..NOTHING
-        },
-        Refusal::TooFew { needed } => Detail {
-            needed: Some(needed),
-            ..NOTHING
-        },
-        Refusal::LineForm { line: _, character } => Detail {
-            character: Some(character),
-            ..NOTHING
-        },
-        Refusal::DemandUnknown { row } => Detail {
-            row: Some(row),
-            ..NOTHING
-        },
-        Refusal::SideWrong { row } => Detail {
-            row: Some(row),
-            ..NOTHING
-        },
-        Refusal::SlotOutside { row } => Detail {
-            row: Some(row),
-            ..NOTHING
-        },
-        Refusal::Collision { row, met } => Detail {
-            row: Some(row),
-            met: Some(met),
-            ..NOTHING
-        },
-        Refusal::CountWrong { line } => Detail {
-            place: Some(line),
-            ..NOTHING
-        },
-        Refusal::RingSize
-        | Refusal::Planned
-        | Refusal::Unplanned
-        | Refusal::NumberUnknown
-        | Refusal::NodesOut
-        | Refusal::NodeOut
-        | Refusal::SlipsSpent
-        | Refusal::SlipUnknown
-        | Refusal::FrameForm { line: _ }
-        | Refusal::FrameOrder { line: _ }
-        | Refusal::FiguresWrong { line: _ }
-        | Refusal::NoWeight { link: _ }
-        | Refusal::NoLink => NOTHING,
+        Refusal::EndOutside { place }
+        | Refusal::EndsFalling { place }
+        | Refusal::UnitsOutside { place }
+        | Refusal::NumberTaken { place }
+        | Refusal::BookFull { place }
+        | Refusal::UnitsPast { place }
+        | Refusal::CountWrong { line: place } => detail.place = Some(place),
+        Refusal::TooFew { needed } => detail.needed = Some(needed),
+        Refusal::LineForm { line: _, character } => detail.character = Some(character),
+        Refusal::DemandUnknown { row }
+        | Refusal::SideWrong { row }
+        | Refusal::SlotOutside { row } => detail.row = Some(row),
+        Refusal::Collision { row, met } => {
+            detail.row = Some(row);
+            detail.met = Some(met);
+        }
+        _ => {}
     }
+    detail
 }
