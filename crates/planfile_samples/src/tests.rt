@@ -166,6 +166,11 @@ fn files_refused() -> Result<(), Fail> {
         (24, b'A', not_a_digit(3, 3)),
         (7, b'2', because(1, Refusal::RingSize)),
         (31, b'5', because(3, Refusal::EndOutside { place: 2 })),
+        (18, b'1', because(2, Refusal::EndsFalling { place: 1 })),
+        (19, b'3', because(2, Refusal::UnitsOutside { place: 1 })),
+        (27, b'1', because(3, Refusal::NumberTaken { place: 2 })),
+        (46, b'0', because(4, Refusal::SlotOutside { row: 1 })),
+        (55, b'1', because(5, Refusal::SideWrong { row: 2 })),
         (33, b'2', because(3, Refusal::CountWrong { line: 2 })),
         (66, b'3', because(6, Refusal::DemandUnknown { row: 3 })),
         (72, b'1', because(6, Refusal::Collision { row: 3, met: 1 })),
@@ -199,4 +204,34 @@ fn a_fault_is_shown() -> Result<(), Fail> {
     let fault = PlanFault::OfFrame(FrameFault::TooFew { needed: 3, line: 4 });
     check_eq(fault.line(), 4)?;
     check_eq(fault.cause(), Refusal::TooFew { needed: 3 })
+}
+
+#[test]
+fn too_many_lines() -> Result<(), Fail> {
+    let mut demands = [between(0, 1, 2, 1); 129];
+    for (i, d) in demands.iter_mut().enumerate() {
+        d.number = (i % 1000) as u16 + 1;
+    }
+    let mut text = [0u8; 1701];
+    check(write_plan(7, 4, &demands, &[], &mut text).is_ok())?;
+    let mut lines = [between(0, 0, 0, 0); 129];
+    let mut rows = [clockwise(0, 0); 1];
+    let mut sheet = [0u16; 1024];
+    let fault = take_file(&text, &mut lines, &mut rows, &mut sheet).err();
+    check_eq(fault, because(130, Refusal::BookFull { place: 129 }))
+}
+
+#[test]
+fn too_many_units() -> Result<(), Fail> {
+    let mut demands = [between(0, 1, 2, 48); 22];
+    for (i, d) in demands.iter_mut().enumerate() {
+        d.number = (i % 1000) as u16 + 1;
+    }
+    let mut text = [0u8; 310];
+    check(write_plan(7, 4, &demands, &[], &mut text).is_ok())?;
+    let mut lines = [between(0, 0, 0, 0); 22];
+    let mut rows = [clockwise(0, 0); 1];
+    let mut sheet = [0u16; 1024];
+    let fault = take_file(&text, &mut lines, &mut rows, &mut sheet).err();
+    check_eq(fault, because(23, Refusal::UnitsPast { place: 22 }))
 }
