@@ -2,6 +2,7 @@
 //!
 //! A book keeps the demands of one ring, draws a plan for them, and hands the plan out node by node. `specs/` says what a book holds, what each call answers
 //! and leaves, and what a history of calls and answers says by itself; the law ties the two together. The crate `book` has the code.
+#![tactic(auto)]
 
 ghost use Rattle.std.specs.Prelude.{◌≡◌};
 ghost use Rattle.booklaw.specs.declared.StartFault.TheVariants.{Memory};

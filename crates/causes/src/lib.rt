@@ -1,4 +1,5 @@
 //! The causes of refusals in plain words, and what a report says of each beside its number and its line.
+#![tactic(auto)]
 
 ghost use Rattle.std.specs.Prelude.{◌≡◌};
 ghost use Rattle.causes.specs.Causes.{cause_words, detail_of};

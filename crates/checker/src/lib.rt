@@ -1,4 +1,5 @@
 //! The plan checker: it passes exactly the plans, with their slot count and loads, and gives the first cause against any other rows.
+#![tactic(auto)]
 
 mod figures;
 

@@ -1,4 +1,5 @@
 //! Sample plans: what the definition of the verdict says of them, as one proved statement, and what the checker answers, as tests.
+#![tactic(auto)]
 
 ghost use Rattle.checker_samples.specs.Samples.{Samples};
 

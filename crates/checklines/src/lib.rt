@@ -1,4 +1,5 @@
 //! The demand lines of a plan from elsewhere, checked one by one.
+#![tactic(auto)]
 
 ghost use Rattle.std.specs.Prelude.{◌≡◌, ◌+◌, ◌^◌, ◌<◌, ◌≤◌, length};
 ghost use Rattle.ring.specs.Ring.{named, units as units_of};

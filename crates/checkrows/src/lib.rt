@@ -1,4 +1,5 @@
 //! The rows of a plan from elsewhere, checked one by one on a sheet of marks, and then counted line by line.
+#![tactic(auto)]
 
 pub mod counts;
 pub mod routes;

@@ -1,5 +1,6 @@
 //! What slotting means, and what is proved of it. The code that slots is in other crates, whose contracts cite these definitions; here are the
 //! theorems on them, each as the contract of a function.
+#![tactic(auto)]
 
 ghost use Rattle.drawn.specs.Claims.{DrawsWell, DrawsBest, OverFirst, SlotsRise, RowsLoadLinks};
 

@@ -1,4 +1,5 @@
 //! Whether a demand may be entered into a book: the checks on its ends, its units and its number, and on the room that is left.
+#![tactic(auto)]
 
 ghost use Rattle.std.specs.Prelude.{◌≡◌, ◌≤◌, IfOk};
 ghost use Rattle.ring.specs.Ring.{units as units_of};

@@ -1,4 +1,5 @@
 //! The frames of a plan file, the order in which they may come, and the reading of a file. docs/FORMATS.md lays the file down.
+#![tactic(auto)]
 
 pub mod read;
 

@@ -1,4 +1,5 @@
 //! The rows of one node: those of all demands with the node as either end.
+#![tactic(auto)]
 
 ghost use Rattle.std.specs.Prelude.{◌≡◌, ◌+◌, ◌^◌, ◌<◌, ◌≤◌, true, length, IfOk, if◌then◌else◌, slice_set};
 ghost use Rattle.ring.specs.Sums.{one};

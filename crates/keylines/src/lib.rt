@@ -1,4 +1,5 @@
 //! A report for people and scripts alike: lines of a key and a value, added to a text of bytes.
+#![tactic(auto)]
 
 ghost use Rattle.std.specs.Prelude.{◌≡◌, ℕ, ◌<◌, ◌∷◌, ◌++◌, decimal, OnOk};
 ghost use Rattle.keylines.specs.KeyLines.{key_name, key_line, entry_line, entry_lines, hex_digit, shown_byte, shown_bytes, spaced_one, spaced};

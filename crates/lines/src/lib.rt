@@ -1,4 +1,5 @@
 //! Lines of lower-case hexadecimal digits, two digits a byte, each ended by a line feed: reading, writing and showing them.
+#![tactic(auto)]
 
 ghost use Rattle.std.specs.Prelude.{◌≡◌, ◌+◌, ◌-◌, ◌*◌, ◌/◌, ◌%◌, ◌^◌, ◌<◌, ◌≤◌, true, length, take, drop, MatchResult, slice_set};
 ghost use Rattle.lines.specs.Hex.{digit_char, is_digit, value_of, bytes_of};

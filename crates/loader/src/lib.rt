@@ -2,6 +2,7 @@
 //!
 //! Two wrong loaders are not built. One lets a slip go that it has not handed back, and one reports a slip as loaded whose rows it has not read. Both stand in
 //! `must-fail/`, as edits of `load_node` that the prover has to refuse.
+#![tactic(auto)]
 
 ghost use Rattle.std.specs.Prelude.{◌≡◌, MatchResult};
 ghost use Rattle.book.specs.Does.{state};

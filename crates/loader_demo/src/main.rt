@@ -1,6 +1,7 @@
 //! A loader at work: it starts a book, enters demands, plans by a rule of its own, loads each node, reopens the book, plans by the best link, and prints each step.
 //!
 //! The law over all runs, on the contract of `Book::start`, holds of this book after each step, also for the rule that is declared here: the library has never seen it.
+#![tactic(auto)]
 
 ghost use Rattle.std.specs.Prelude.{◌≡◌};
 ghost use Rattle.loader_demo.specs.Clockwise.{all_clockwise, clockwise_parallel, clockwise_elsewhere};

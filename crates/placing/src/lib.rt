@@ -1,4 +1,5 @@
 //! Gives the units of routes their slots, turn after turn, on a sheet of marks; and writes the rows.
+#![tactic(auto)]
 
 pub mod rows;
 

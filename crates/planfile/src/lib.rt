@@ -1,4 +1,5 @@
 //! Plan files: taking one from elsewhere, with the check of its plan, and writing one. docs/FORMATS.md lays the file down.
+#![tactic(auto)]
 
 pub mod take;
 pub mod write;

@@ -1,4 +1,5 @@
 //! Writing plan files. docs/FORMATS.md lays the file down.
+#![tactic(auto)]
 
 ghost use Rattle.std.specs.Prelude.{◌≡◌, ◌+◌, ◌*◌, ◌/◌, ◌%◌, ◌<◌, ◌≤◌, map, length, take, IfOk, if◌then◌else◌, Ok, Err, nat_le};
 ghost use Rattle.std.specs.List.{flat_map, AllByRecursion as All};

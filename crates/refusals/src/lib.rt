@@ -1,4 +1,5 @@
 //! Why a call is refused. One enum has every cause of every call, with the values that are returned with it.
+#![tactic(auto)]
 
 ghost use Rattle.std.specs.Prelude.{◌≡◌};
 ghost use Rattle.refusals.specs.Refusals.{refusal_number, refusal_values};

@@ -1,4 +1,5 @@
 //! What is printed of a plan file: that it passes, with its figures, or why it is refused, and where.
+#![tactic(auto)]
 
 ghost use Rattle.std.specs.Prelude.{◌≡◌, ◌≤◌, [], ◌∷◌, ◌++◌, length, take, IfOk, codes, OnOk};
 ghost use Rattle.std.specs.List.{flat_map};

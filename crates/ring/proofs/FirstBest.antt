@@ -13,18 +13,18 @@ use Rattle.ring.specs.Choosing.{beats, Leads, FirstBest, first_from, first_least
 
 -- ---- the loop
 -- the next candidate beats the best so far
-pub lead_takes : {C M : Type 0} (orders : M → M → Ordering → Type 0) (all : List (Best C M)) (i b : ℕ) (x y : Best C M) → Leads orders all i b → i < length all → x ≡ get_or all i x → y ≡ get_or all b y → orders x.measure y.measure Less → (t : ℕ) → t ≡ i → (t < i + 1) × Leads orders all (i + 1) t
-lead_takes orders all i b x y lead h ex ey says t e =
-    let at : Leads orders all (i + 1) i =
-    λ o. IsFirstBest-takes (ranks_by o (λ z. z.measure)) all i b x y (lead o) h ex ey (ap is_lt (sym (o.says _ _ _ says))) in
-    ((omega arith), subst (λ (v : ℕ). Leads orders all (i + 1) v) (sym e) at)
+pub lead_takes : {C M : Type 0} (cmp : M → M → Ordering) (all : List (Best C M)) (i b : ℕ) (x y : Best C M) → Leads cmp all i b → i < length all → x ≡ get_or all i x → y ≡ get_or all b y → cmp x.measure y.measure ≡ Less → (t : ℕ) → t ≡ i → (t < i + 1) × Leads cmp all (i + 1) t
+lead_takes cmp all i b x y lead h ex ey says t e =
+    let at : Leads cmp all (i + 1) i =
+    λ o. IsFirstBest-takes (ranks_by o (λ z. z.measure)) all i b x y (lead o) h ex ey (ap is_lt says) in
+    ((omega arith), subst (λ (v : ℕ). Leads cmp all (i + 1) v) (sym e) at)
 
 -- the next candidate does not beat the best so far
-pub lead_keeps : {C M : Type 0} (orders : M → M → Ordering → Type 0) (all : List (Best C M)) (i b : ℕ) (x y : Best C M) (r : Ordering) → is_lt r ≡ false → b < i → Leads orders all i b → i < length all → x ≡ get_or all i x → y ≡ get_or all b y → orders x.measure y.measure r → (t : ℕ) → t ≡ b → (t < i + 1) × Leads orders all (i + 1) t
-lead_keeps orders all i b x y r past low lead h ex ey says t e =
-    let at : Leads orders all (i + 1) b =
-    λ o. IsFirstBest-keeps (ranks_by o (λ z. z.measure)) all i b x y (lead o) h ex ey (ap is_lt (sym (o.says _ _ _ says)) ∙ past) in
-    ((omega arith), subst (λ (v : ℕ). Leads orders all (i + 1) v) (sym e) at)
+pub lead_keeps : {C M : Type 0} (cmp : M → M → Ordering) (all : List (Best C M)) (i b : ℕ) (x y : Best C M) (r : Ordering) → is_lt r ≡ false → b < i → Leads cmp all i b → i < length all → x ≡ get_or all i x → y ≡ get_or all b y → cmp x.measure y.measure ≡ r → (t : ℕ) → t ≡ b → (t < i + 1) × Leads cmp all (i + 1) t
+lead_keeps cmp all i b x y r past low lead h ex ey says t e =
+    let at : Leads cmp all (i + 1) b =
+    λ o. IsFirstBest-keeps (ranks_by o (λ z. z.measure)) all i b x y (lead o) h ex ey (ap is_lt says ∙ past) in
+    ((omega arith), subst (λ (v : ℕ). Leads cmp all (i + 1) v) (sym e) at)
 
 -- ---- the first of a to b that none of the others beats
 -- the numbers a to b
@@ -73,11 +73,11 @@ best_of_same p q f a [] = refl
 best_of_same p q f a (x ∷ xs) = best_of_same p q f (cond (p x a) x a) xs ∙ ap (λ t. best_of q (cond t x a) xs) (f x a)
 
 -- the first best of mk a .. mk b is mk of the first best of a to b
-made_first : {C M : Type 0} (orders : M → M → Ordering → Type 0) (o : IsTotalOrder orders) (mk : ℕ → Best C M) (wins : ℕ → ℕ → Bool) →
-    ((e f : ℕ) → beats o (mk e) (mk f) ≡ wins e f) → (a b : ℕ) → a ≤ b → (all : List (Best C M)) (x : Best C M) →
-    all ≡ map mk (range a b) → FirstBest orders all x → x ≡ mk (first_from wins a b)
-made_first {C = C} {M = M} orders o mk wins same a b h all x is first =
-    let by : ℕ → ℕ → Bool = λ e f. beats o (mk e) (mk f) in
+made_first : {C M : Type 0} (cmp : M → M → Ordering) (o : IsTotalOrder cmp) (mk : ℕ → Best C M) (wins : ℕ → ℕ → Bool) →
+    ((e f : ℕ) → beats cmp (mk e) (mk f) ≡ wins e f) → (a b : ℕ) → a ≤ b → (all : List (Best C M)) (x : Best C M) →
+    all ≡ map mk (range a b) → FirstBest cmp all x → x ≡ mk (first_from wins a b)
+made_first {C = C} {M = M} cmp o mk wins same a b h all x is first =
+    let by : ℕ → ℕ → Bool = λ e f. beats cmp (mk e) (mk f) in
     let ranks : IsStrictWeakOrder by = ranks_by o (λ e. (mk e).measure) in
     let m = suc (b - a) in
     let p = placed by ranks a b h in
@@ -89,8 +89,8 @@ made_first {C = C} {M = M} orders o mk wins same a b h all x is first =
     λ i d z l. ap (λ xs. get_or xs i z) is ∙ get_or-map mk (range a b) i d z (omega (arith, l, length-range_with_len a m)) in
     let moved : IsFirstBest by (range a b) m k = (
       low,
-      (λ i d l. subst (λ v. beats o v (mk (get_or (range a b) k d)) ≡ false) (at i d x l) (subst (λ v. beats o (get_or all i x) v ≡ false) (at k d x low) (lead.1 i x (omega (arith, l, long))))),
-      (λ i d l. subst (λ v. beats o (mk (get_or (range a b) k d)) v ≡ true) (at i d x (omega (arith, l, low))) (subst (λ v. beats o v (get_or all i x) ≡ true) (at k d x low) (lead.2 i x l))),
+      (λ i d l. subst (λ v. beats cmp v (mk (get_or (range a b) k d)) ≡ false) (at i d x l) (subst (λ v. beats cmp (get_or all i x) v ≡ false) (at k d x low) (lead.1 i x (omega (arith, l, long))))),
+      (λ i d l. subst (λ v. beats cmp (mk (get_or (range a b) k d)) v ≡ true) (at i d x (omega (arith, l, low))) (subst (λ v. beats cmp v (get_or all i x) ≡ true) (at k d x low) (lead.2 i x l))),
     ) in
     let one : k ≡ p.0 = IsFirstBest-unique {beats = by} ranks (range a b) m k p.0 a moved p.3 in
     let place : a + k ≡ a + p.0 = ap (λ j. a + j) one in
@@ -111,18 +111,18 @@ higher x y = lower y.0 x.0
 
 -- measured by g, the first best of mk 1 .. mk n is that of the first least of g
 pub first_by_least : {C : Type 0} (mk : ℕ → Best C ℕ) (g : ℕ → ℕ) → ((e : ℕ) → (mk e).measure ≡ g e) → (n : ℕ) → 1 ≤ n → (all : List (Best C ℕ)) (x : Best C ℕ) →
-    all ≡ map mk (range_with_len 1 n) → FirstBest (λ x y o. MatchOrdering o (x < y) (x ≡ y) (y < x)) all x → x ≡ mk (first_least n g)
+    all ≡ map mk (range_with_len 1 n) → FirstBest nat_cmp all x → x ≡ mk (first_least n g)
 first_by_least mk g is n h all x made first =
     let m : n ≡ suc (n - 1) = omega arith in
-    made_first (λ x y o. MatchOrdering o (x < y) (x ≡ y) (y < x)) nat_cmp_total mk (λ e f. ltb (g e) (g f))
+    made_first nat_cmp nat_cmp_total mk (λ e f. ltb (g e) (g f))
     (λ e f. lower (mk e).measure (mk f).measure ∙ ap₂ ltb (is e) (is f)) 1 n h all x (made ∙ ap (λ k. map mk (range_with_len 1 k)) m) first
 
 -- measured by g reversed, the first best of mk a .. mk b is that of the first greatest of g
 pub first_by_most : {C : Type 0} (mk : ℕ → Best C (Reverse ℕ)) (g : ℕ → ℕ) → ((e : ℕ) → (mk e).measure.0 ≡ g e) → (a b : ℕ) → a ≤ b → (all : List (Best C (Reverse ℕ))) (x : Best C (Reverse ℕ)) →
-    all ≡ map mk (range_with_len a (b + 1 - a)) → FirstBest (λ x y o. MatchOrdering o (y.0 < x.0) (y.0 ≡ x.0) (x.0 < y.0)) all x → x ≡ mk (first_most a b g)
+    all ≡ map mk (range_with_len a (b + 1 - a)) → FirstBest (λ x y. nat_cmp y.0 x.0) all x → x ≡ mk (first_most a b g)
 first_by_most mk g is a b h all x made first =
     let m : b + 1 - a ≡ suc (b - a) = omega arith in
-    made_first (λ x y o. MatchOrdering o (y.0 < x.0) (y.0 ≡ x.0) (x.0 < y.0)) (on_total (λ x. x.0) (back_total nat_cmp_total)) mk (λ e f. ltb (g f) (g e))
+    made_first (λ x y. nat_cmp y.0 x.0) (on_total (λ x. x.0) (back_total nat_cmp_total)) mk (λ e f. ltb (g f) (g e))
     (λ e f. higher (mk e).measure (mk f).measure ∙ ap₂ ltb (is f) (is e)) a b h all x (made ∙ ap (λ k. map mk (range_with_len a k)) m) first
 
 -- ---- a list that is filled from a function of the place

@@ -6,17 +6,17 @@ use Rattle.std.specs.Cmp.{IsTotalOrder}
 use Rattle.std.specs.Ordering.{is_lt}
 use Rattle.ring.specs.declared.choosing.Best.{Best}
 
--- one candidate beats another where its measure comes first in the order
-abbrev pub beats : {C M : Type 0} {orders : M → M → Ordering → Type 0} → IsTotalOrder orders → Best C M → Best C M → Bool
-beats o x y = is_lt (o.cmp x.measure y.measure)
+-- one candidate beats another where its measure comes first in the order that `cmp` answers
+abbrev pub beats : {C M : Type 0} → (M → M → Ordering) → Best C M → Best C M → Bool
+beats cmp x y = is_lt (cmp x.measure y.measure)
 
--- of the first i candidates, that at place b is the first that no other beats, in each total order that the answers of `cmp` allow
-abbrev pub Leads : {C M : Type 0} → (M → M → Ordering → Type 0) → List (Best C M) → ℕ → ℕ → Type 0
-Leads orders all i b = (o : IsTotalOrder orders) → IsFirstBest (beats o) all i b
+-- of the first i candidates, that at place b is the first that no other beats, where the answers of `cmp` are a total order
+abbrev pub Leads : {C M : Type 0} → (M → M → Ordering) → List (Best C M) → ℕ → ℕ → Type 0
+Leads cmp all i b = IsTotalOrder cmp → IsFirstBest (beats cmp) all i b
 
 -- x is the first of all the candidates that no other beats: it stands at a place, nothing beats it, and it beats what stands before
-abbrev pub FirstBest : {C M : Type 0} → (M → M → Ordering → Type 0) → List (Best C M) → Best C M → Type 0
-FirstBest orders all x = (b : ℕ) × (b < length all) × (slice_index_or all b x ≡ x) × Leads orders all (length all) b
+abbrev pub FirstBest : {C M : Type 0} → (M → M → Ordering) → List (Best C M) → Best C M → Type 0
+FirstBest cmp all x = (b : ℕ) × (b < length all) × (slice_index_or all b x ≡ x) × Leads cmp all (length all) b
 
 -- ---- the first best of the numbers from a to b
 -- the first that none of the others beats

@@ -28,7 +28,7 @@ fn comes_before<M: Ord>(x: &M, y: &M) -> bool
 /// The first candidate that no other beats, where one beats another if its measure comes first in the order; none of no candidates.
 /// For the greatest measure, measure by `Reverse`.
 pub fn first_best<C, M: Ord>(all: &[Best<C, M>]) -> Option<&Best<C, M>>
-    ensures { MatchOption result (length all.now ≡ 0) (λ x. FirstBest (λ x' y' r'. r' ≡ M.Ord.cmp x' y') all.now x.now) }
+    ensures { MatchOption result (length all.now ≡ 0) (λ x. FirstBest M.Ord.cmp all.now x.now) }
 {
     if all.len() == 0 {
         return None;

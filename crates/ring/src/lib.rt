@@ -1,6 +1,7 @@
 //! The words that every other crate speaks: the ring, its demands and routes, the rows of a plan, and why a call is refused.
 //!
 //! A ring has n nodes, 1 to n clockwise, with n from 3 to 16. Link e joins the nodes e and e + 1, and link n joins the nodes n and 1.
+#![tactic(auto)]
 
 pub mod choosing;
 pub mod routes;

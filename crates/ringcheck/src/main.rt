@@ -1,4 +1,5 @@
 //! Checks a plan file: reads it from standard input and prints what was found, a key and a value a line. docs/FORMATS.md has the keys.
+#![tactic(auto)]
 
 use report::report;
 use std::io::{Read, Write};

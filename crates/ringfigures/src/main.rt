@@ -2,6 +2,7 @@
 //!
 //! For each of three routing rules it shows the side and the links of each demand, the loads of the links, and the rows of the plan that is drawn;
 //! then the plan with the best link shut; then the heaviest cut and the lower bound, which no plan can beat. All figures come from the library's calls.
+#![tactic(auto)]
 
 ghost use Rattle.std.specs.Prelude.{◌≡◌, ◌≤◌};
 ghost use Rattle.ring.specs.Ring.{WithinLimits};

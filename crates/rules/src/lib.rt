@@ -3,6 +3,7 @@
 //! A rule means one side for each ring size and pair of ends. Its law is parallel routing: on one ring, two chosen routes that share a link leave
 //! some link out of both. Whatever is proved of plans drawn by a rule is proved from the rule's meaning and this law, so a rule of one's own
 //! needs an `impl` of `Rule` here below and nothing else.
+#![tactic(auto)]
 
 pub mod shut;
 pub mod weights;

@@ -1,4 +1,5 @@
 //! Sample rings: what the definitions say of their figures, plans and verdicts, in one proved statement.
+#![tactic(auto)]
 
 ghost use Rattle.sample_rings.specs.SampleRings.{SampleRings};
 

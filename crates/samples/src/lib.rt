@@ -1,4 +1,5 @@
 //! Sample rings: what the definitions say of them, as one proved statement, and what the library's calls answer, as tests.
+#![tactic(auto)]
 
 ghost use Rattle.samples.specs.Samples.{SampleFigures};
 

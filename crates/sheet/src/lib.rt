@@ -1,4 +1,5 @@
 //! The sheet of marks on which slots are given out: one mark a slot, with bit e - 1 set where a unit in that slot is over link e.
+#![tactic(auto)]
 
 ghost use Rattle.std.specs.Prelude.{◌≡◌, ◌+◌, ◌<◌, ◌≤◌, length, replicate, fold};
 ghost use Rattle.sheet.specs.Marks.{Blank, free_at, marked, in_turn, used};

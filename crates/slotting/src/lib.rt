@@ -1,4 +1,5 @@
 //! Slotting: draws the rows of a plan for some demands. Each unit of each demand gets a slot, and no two units in one slot share a link.
+#![tactic(auto)]
 
 mod drawing;
 mod trials;

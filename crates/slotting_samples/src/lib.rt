@@ -1,4 +1,5 @@
 //! Sample rings: the plans that slotting gives by the definitions, as one proved statement, and what the drawings answer, as tests.
+#![tactic(auto)]
 
 ghost use Rattle.ring.specs.Ring.{WithinLimits};
 ghost use Rattle.slotting_samples.specs.Plans.{SamplePlans};

@@ -7,7 +7,7 @@ loop-k-preserved c =
     let ds = c.args.digits.now in
     let k = c.loop-k.k in
     let lt : 2 * k + 1 < length ds = omega arith in
-    bytes_more c.loop-k.bytes ds k c.byte-of.result lt c.byte-of.ensures ∙ c.loop-k.invariant
+    bytes_more c.loop-k.bytes ds k c.byte_of.result lt c.byte_of.ensures ∙ c.loop-k.invariant
 
 pub returns : goal.returns
 returns c =

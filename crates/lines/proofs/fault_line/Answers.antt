@@ -8,15 +8,15 @@ loop-k-init c = let e : c.args.line - 1 ≡ c.args.line - 1 - 0 = omega arith in
 
 pub loop-k-preserved : goal.loop-k-preserved
 loop-k-preserved c =
-    let left = c.args.line - 1 - c.loop-k.-k in
-    let more : 0 < left = omega (arith, c.lines-before-k-end.ensures) in
-    let e : left - 1 ≡ c.args.line - 1 - (c.loop-k.-k + 1) = omega arith in
+    let left = c.args.line - 1 - c.loop-k._k in
+    let more : 0 < left = omega (arith, c.lines_before-k-end.ensures) in
+    let e : left - 1 ≡ c.args.line - 1 - (c.loop-k._k + 1) = omega arith in
     c.loop-k.invariant ∙ line_next c.loop-k.rest.now left more
-    ∙ ap (λ (xs : List ℕ). get_or (lines_of xs) (left - 1) []) (sym c.after-line-rest.ensures)
-    ∙ ap (λ n. get_or (lines_of c.after-line-rest.result.now) n []) e
+    ∙ ap (λ (xs : List ℕ). get_or (lines_of xs) (left - 1) []) (sym c.after_line-rest.ensures)
+    ∙ ap (λ n. get_or (lines_of c.after_line-rest.result.now) n []) e
 
 pub returns : goal.returns
 returns c =
     let rest = c.loop-k.rest.now in
-    let none : 0 ≡ c.args.line - 1 - c.loop-k.-k = omega (arith, c.lines-before-k-end.ensures) in
-    c.first-line.ensures ∙ sym (first_is rest) ∙ ap (λ n. unfed (get_or (lines_of rest) n [])) none ∙ sym (ap unfed c.loop-k.invariant)
+    let none : 0 ≡ c.args.line - 1 - c.loop-k._k = omega (arith, c.lines_before-k-end.ensures) in
+    c.first_line.ensures ∙ sym (first_is rest) ∙ ap (λ n. unfed (get_or (lines_of rest) n [])) none ∙ sym (ap unfed c.loop-k.invariant)

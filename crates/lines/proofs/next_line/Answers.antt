@@ -3,9 +3,9 @@ use Rattle.lines.specs.Lines.{digits}
 use Rattle.lines.proofs.First.{unformed_here}
 use Rattle.lines.proofs.next_line.Goals as goal
 
-pub returns-then-not-is-formed : goal.returns-then-not-is-formed
-returns-then-not-is-formed c =
+pub returns-then-not-is_formed : goal.returns-then-not-is_formed
+returns-then-not-is_formed c =
     let text = c.args.text.now in
-    let n = c.count-digits-count.result in
-    let e : n ≡ digits text = c.count-digits-count.ensures.value in
-    unformed_here c.args.line text c.fault-after.result n e (sym c.if-not-is-formed.ensures.value) c.fault-after.ensures
+    let n = c.count_digits-count.result in
+    let e : n ≡ digits text = c.count_digits-count.ensures.value in
+    unformed_here c.args.line text c.fault_after.result n e (sym c.if-not-is_formed.ensures.value) c.fault_after.ensures
