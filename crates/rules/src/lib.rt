@@ -37,7 +37,7 @@ pub trait Rule {
 
 /// The demand on the side that the rule chooses for it.
 pub fn route_by<R: Rule>(n: u8, demand: Demand, rule: &R) -> Route
-    ensures { result ≡ route_by (side rule.now) n demand }
+    ensures { result ≡ route_by (R.side rule.now) n demand }
 {
     Route {
         demand,
@@ -48,7 +48,7 @@ pub fn route_by<R: Rule>(n: u8, demand: Demand, rule: &R) -> Route
 /// Puts each demand on the side that the rule chooses for it. `routes` has a place for each demand.
 pub fn choose_routes<R: Rule>(n: u8, demands: &[Demand], rule: &R, routes: &mut [Route])
     requires { length routes.old ≡ length demands.now }
-    ensures { routes.new ≡ routes_by (side rule.now) n demands.now }
+    ensures { routes.new ≡ routes_by (R.side rule.now) n demands.now }
 {
     for (i, d) in demands.iter().enumerate() {
         routes[i] = route_by(n, *d, rule);

@@ -59,7 +59,7 @@ fn lay_out<R: Rule>(
     requires slots { length slots.old ≡ units demands.now }
     requires empty { rows.old.items ≡ [] }
     requires room { 1024 ≤ vec_capacity rows.old }
-    ensures rows { rows.new.items ≡ drawn n (side rule.now) demands.now }
+    ensures rows { rows.new.items ≡ drawn n (R.side rule.now) demands.now }
     ensures slots { result.slots ≡ slot_count rows.new.items }
     ensures loads { result.loads ≡ per_link n (load demands.now rows.new.items) }
     ensures room { vec_capacity rows.new ≡ vec_capacity rows.old }
@@ -83,7 +83,7 @@ fn draw_on<R: Rule>(
     requires limits { WithinLimits n demands.now }
     requires empty { rows.old.items ≡ [] }
     requires room { 1024 ≤ vec_capacity rows.old }
-    ensures answer { Draws n demands.now (drawn n (side rule.now) demands.now) (length marks.old) rows.old.items rows.new.items result }
+    ensures answer { Draws n demands.now (drawn n (R.side rule.now) demands.now) (length marks.old) rows.old.items rows.new.items result }
     ensures room { vec_capacity rows.new ≡ vec_capacity rows.old }
 {
     if marks.len() < MARKS {
@@ -115,7 +115,7 @@ pub(crate) fn draw_lent<R: Rule>(
     requires limits { WithinLimits n demands.now }
     requires empty { rows.old.items ≡ [] }
     requires room { 1024 ≤ vec_capacity rows.old }
-    ensures answer { Draws n demands.now (drawn n (side rule.now) demands.now) (length sheet.old) rows.old.items rows.new.items result }
+    ensures answer { Draws n demands.now (drawn n (R.side rule.now) demands.now) (length sheet.old) rows.old.items rows.new.items result }
     ensures room { vec_capacity rows.new ≡ vec_capacity rows.old }
     ensures blank { Blank sheet.new (length sheet.old) }
 {
@@ -137,7 +137,7 @@ pub fn draw<R: Rule>(
     requires limits { WithinLimits n demands.now }
     requires empty { rows.old.items ≡ [] }
     requires room { 1024 ≤ vec_capacity rows.old }
-    ensures answer { Draws n demands.now (drawn n (side rule.now) demands.now) (length sheet.old) rows.old.items rows.new.items result }
+    ensures answer { Draws n demands.now (drawn n (R.side rule.now) demands.now) (length sheet.old) rows.old.items rows.new.items result }
     ensures room { vec_capacity rows.new ≡ vec_capacity rows.old }
     ensures blank { Blank sheet.new (length sheet.old) }
     ensures well { OnOk result (WellDrawn n demands.now rows.new.items) }

@@ -40,7 +40,7 @@ fn card_for(n: u8, demands: &[Demand], slots: u16, loads: [u16; 16]) -> Card
 impl Book {
     /// Draws a plan by a rule on marks that are lent.
     fn plan_on<R: Rule>(&mut self, rule: &R, marks: &mut [u16]) -> Result<Card, Refusal>
-        ensures does { Does self.old (Plan (side rule.now) (parallel rule.now) (length marks.old)) (answered result) self.new }
+        ensures does { Does self.old (Plan (R.side rule.now) (R.parallel rule.now) (length marks.old)) (answered result) self.new }
         ensures card { IfOk result (λ card. card ≡ card_of self.old.size (demands_in self.old) (rows_in self.new)) }
         ensures well { OnOk result (WellDrawn self.old.size (demands_in self.old) (rows_in self.new)) }
     {
@@ -81,7 +81,7 @@ impl Book {
     ///
     /// The rows are a plan for the book's demands, with no more slots than the heaviest cut's total, and at most twice those of any rival.
     pub fn plan<R: Rule>(&mut self, rule: &R, sheet: &mut [u16]) -> Result<Card, Refusal>
-        ensures does { Does self.old (Plan (side rule.now) (parallel rule.now) (length sheet.old)) (answered result) self.new }
+        ensures does { Does self.old (Plan (R.side rule.now) (R.parallel rule.now) (length sheet.old)) (answered result) self.new }
         ensures card { IfOk result (λ card. card ≡ card_of self.old.size (demands_in self.old) (rows_in self.new)) }
         ensures blank { Blank sheet.new (length sheet.old) }
         ensures well { OnOk result (WellDrawn self.old.size (demands_in self.old) (rows_in self.new)) }

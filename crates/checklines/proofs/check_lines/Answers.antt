@@ -7,17 +7,17 @@ use Rattle.ring.proofs.Summing.{sum_more}
 use Rattle.checklines.proofs.LinesPass.{line_fine}
 use Rattle.checklines.proofs.check_lines.Goals as goal
 
-pub returns-in-err-check-line : goal.returns-in-err-check-line
-returns-in-err-check-line c =
-    let p = err_from_is_err_and c.from-residual.result c.from-residual.ensures.1 in
-    rw (p.1, p.2) (fault_stops (line_fault c.args.n) _ _ _ _ _ c.loop-i-test.true c.loop-i.invariant.0 c.in-err-check-line.ensures)
+pub returns-in_err-check_line : goal.returns-in_err-check_line
+returns-in_err-check_line c =
+    let p = err_from_is_err_and c.from_residual.result c.from_residual.ensures.1 in
+    rw (p.1, p.2) (fault_stops (line_fault c.args.n) _ _ _ _ _ c.loop-i-test.true c.loop-i.invariant.0 c.in_err-check_line.ensures)
 
 pub loop-i-preserved : goal.loop-i-preserved
 loop-i-preserved c =
     let none : Demand = record { number = 0; lower = 0; upper = 0; units = 0 } in
     let lines = c.args.lines.now in
     let i = c.loop-i.i in
-    let h = c.in-ok-check-line.ensures in
+    let h = c.in_ok-check_line.ensures in
     let m = sum_more (λ (d : Demand). d.units) lines i none c.loop-i-test.true in
     let s : i - 0 ≡ i = omega arith in
     let f = (line_fine c.args.n (take (i - 0) lines) (get_or lines i none) h).all_units in

@@ -3,8 +3,8 @@ use Rattle.placing.specs.Drawing.{marks_turns, slots_turns, node_turns}
 use Rattle.placing.proofs.Draws.{room_here, room_more, sheet_turns_more, out_turns_more, nodes_all}
 use Rattle.placing.proofs.place_nodes.Goals as goal
 
-pub place-turn-requires : goal.place-turn-requires
-place-turn-requires c =
+pub place_turn-requires : goal.place_turn-requires
+place_turn-requires c =
     let lt : c.loop-v.v < c.args.end = omega arith in
     record {
       ring = c.requires.ring;
@@ -21,9 +21,9 @@ loop-v-preserved c =
     let v : ℕ = c.loop-v.v in
     let m : ℕ = c.args.end in
     let lt : v < m = omega arith in (
-      room_more n k routes v m lt c.loop-v.marks c.place-turn.new.marks c.place-turn.ensures.marks c.loop-v.invariant.0,
-      ap (λ s. marks_turns n k routes s (node_turns (v + 1) (m - (v + 1)))) c.place-turn.ensures.marks ∙ sheet_turns_more n k routes v m lt c.loop-v.marks ∙ c.loop-v.invariant.1,
-      ap₂ (λ s o. slots_turns n k routes s o (node_turns (v + 1) (m - (v + 1)))) c.place-turn.ensures.marks c.place-turn.ensures.slots ∙ out_turns_more n k routes v m lt c.loop-v.marks c.loop-v.slots ∙ c.loop-v.invariant.2,
+      room_more n k routes v m lt c.loop-v.marks c.place_turn.new.marks c.place_turn.ensures.marks c.loop-v.invariant.0,
+      ap (λ s. marks_turns n k routes s (node_turns (v + 1) (m - (v + 1)))) c.place_turn.ensures.marks ∙ sheet_turns_more n k routes v m lt c.loop-v.marks ∙ c.loop-v.invariant.1,
+      ap₂ (λ s o. slots_turns n k routes s o (node_turns (v + 1) (m - (v + 1)))) c.place_turn.ensures.marks c.place_turn.ensures.slots ∙ out_turns_more n k routes v m lt c.loop-v.marks c.loop-v.slots ∙ c.loop-v.invariant.2,
     )
 
 pub returns : goal.returns

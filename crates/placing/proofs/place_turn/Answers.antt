@@ -9,13 +9,13 @@ use Rattle.placing.proofs.place_turn.Goals as goal
 abbrev no_route : Route
 no_route = record { demand = record { number = 0; lower = 0; upper = 0; units = 0 }; side = Clockwise }
 
-pub slice-bounds-place-route-end : goal.slice-bounds-place-route-end
-slice-bounds-place-route-end c =
+pub slice_bounds-place_route-end : goal.slice_bounds-place_route-end
+slice_bounds-place_route-end c =
     let lt : c.loop-d.d-index < length c.args.routes.now = omega arith in
     omega (arith, room c.args.n (comes c.args.c c.args.turn) c.args.routes.now c.loop-d.d-index no_route lt c.loop-d.at (length c.loop-d.slots) c.loop-d.invariant.0)
 
-pub place-route-requires : goal.place-route-requires
-place-route-requires c =
+pub place_route-requires : goal.place_route-requires
+place_route-requires c =
     let t : Route → Bool = comes c.args.c c.args.turn in
     let lt : c.loop-d.d-index < length c.args.routes.now = omega arith in
     record {
@@ -32,11 +32,11 @@ loop-d-preserved c =
     let routes = c.args.routes.now in
     let i : ℕ = c.loop-d.d-index in
     let lt : i < length routes = omega arith in (
-      at_out_more n t routes i no_route lt c.loop-d.at c.loop-d.slots c.place-route.new.part c.loop-d.invariant.0
-          (ap length c.place-route.ensures.part ∙ length_slots_after n t c.loop-d.marks _ _ (part_long n t routes i no_route lt c.loop-d.at c.loop-d.slots c.loop-d.invariant.0)),
-      used_more n t routes i no_route lt c.loop-d.marks c.place-route.new.marks c.place-route.ensures.marks c.loop-d.invariant.1,
-      sheet_more n t routes i no_route lt c.loop-d.marks c.place-route.new.marks c.place-route.ensures.marks ∙ c.loop-d.invariant.2,
-      out_more n t routes i no_route lt c.loop-d.marks c.place-route.new.marks c.loop-d.slots c.place-route.new.part c.loop-d.at c.loop-d.invariant.0 c.place-route.ensures.marks c.place-route.ensures.part
+      at_out_more n t routes i no_route lt c.loop-d.at c.loop-d.slots c.place_route.new.part c.loop-d.invariant.0
+          (ap length c.place_route.ensures.part ∙ length_slots_after n t c.loop-d.marks _ _ (part_long n t routes i no_route lt c.loop-d.at c.loop-d.slots c.loop-d.invariant.0)),
+      used_more n t routes i no_route lt c.loop-d.marks c.place_route.new.marks c.place_route.ensures.marks c.loop-d.invariant.1,
+      sheet_more n t routes i no_route lt c.loop-d.marks c.place_route.new.marks c.place_route.ensures.marks ∙ c.loop-d.invariant.2,
+      out_more n t routes i no_route lt c.loop-d.marks c.place_route.new.marks c.loop-d.slots c.place_route.new.part c.loop-d.at c.loop-d.invariant.0 c.place_route.ensures.marks c.place_route.ensures.part
           ∙ c.loop-d.invariant.3,
     )
 

@@ -6,10 +6,10 @@ use Rattle.drawn.proofs.Bounds.{cut_link_lem}
 use Rattle.placing.proofs.Tied.{blank_empty}
 use Rattle.placing.proofs.slot_routes.Goals as goal
 
-pub place-routes-requires : goal.place-routes-requires
-place-routes-requires c =
+pub place_routes-requires : goal.place_routes-requires
+place_routes-requires c =
     let ready = c.requires in
-    let at : c.least-loaded-cut.result.candidate ≡ cut_link c.args.n c.args.routes.now = ap (λ b. b.candidate) c.least-loaded-cut.ensures in
+    let at : c.least_loaded-cut.result.candidate ≡ cut_link c.args.n c.args.routes.now = ap (λ b. b.candidate) c.least_loaded-cut.ensures in
     record {
       link = subst (Link c.args.n) (sym at) (cut_link_lem c.args.n c.args.routes.now (omega (arith, ready.least)));
       blank = blank_empty _ _ c.blank.ensures;
@@ -27,4 +27,4 @@ place-routes-requires c =
 pub returns : goal.returns
 returns c =
     let routes = c.args.routes.now in
-    c.place-routes.ensures ∙ ap (λ (b : Best _ _). slots_in (slotted_at c.args.n routes b.candidate) routes) c.least-loaded-cut.ensures
+    c.place_routes.ensures ∙ ap (λ (b : Best _ _). slots_in (slotted_at c.args.n routes b.candidate) routes) c.least_loaded-cut.ensures

@@ -16,7 +16,7 @@ unfolding zeros
 loop-d-preserved c =
     let ds = c.args.demands.now in
     let i = c.loop-d.d-index in
-    let f = c.put-demand-place in (
+    let f = c.put_demand-place in (
       omega (arith, f.ensures.next),
       frames_more DemandFrame c.loop-d.bytes c.loop-d.place ds i zeros f.new.bytes f.result c.loop-d-test.true f.ensures.written f.ensures.next ∙ c.loop-d.invariant.1,
       All-more (λ d. Sized (DemandFrame d)) ds i zeros c.loop-d-test.true c.loop-d.invariant.2 f.ensures.sized,

@@ -16,7 +16,7 @@ unfolding zeros
 loop-row-preserved c =
     let ds = c.args.rows.now in
     let i = c.loop-row.row-index in
-    let f = c.put-row-place in (
+    let f = c.put_row-place in (
       omega (arith, f.ensures.next),
       frames_more UnitFrame c.loop-row.bytes c.loop-row.place ds i zeros f.new.bytes f.result c.loop-row-test.true f.ensures.written f.ensures.next ∙ c.loop-row.invariant.1,
       All-more (λ d. Sized (UnitFrame d)) ds i zeros c.loop-row-test.true c.loop-row.invariant.2 f.ensures.sized,

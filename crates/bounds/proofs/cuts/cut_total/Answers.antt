@@ -12,16 +12,16 @@ none = record { number = 0; lower = 0; upper = 0; units = 0 }
 abbrev part : ℕ → ℕ → Demand → ℕ
 part e f d = cond (crosses d e f) d.units 0
 
-pub overflow-add-total : goal.overflow-add-total
-overflow-add-total c =
+pub overflow_add-total : goal.overflow_add-total
+overflow_add-total c =
     let e = c.args.first in
     let f = c.args.second in
     let more = sum_drop_more (part e f) c.args.demands.now c.loop-d.d-index none c.loop-d-test.true in
-    omega (arith, c.loop-d.invariant, c.units-across-total.ensures, more, part_le (λ (d : Demand). crosses d e f) (λ (d : Demand). d.units) c.args.demands.now, c.requires)
+    omega (arith, c.loop-d.invariant, c.units_across-total.ensures, more, part_le (λ (d : Demand). crosses d e f) (λ (d : Demand). d.units) c.args.demands.now, c.requires)
 
 pub loop-d-preserved : goal.loop-d-preserved
 loop-d-preserved c =
-    omega (arith, c.loop-d.invariant, c.units-across-total.ensures, sum_drop_more (part c.args.first c.args.second) c.args.demands.now c.loop-d.d-index none c.loop-d-test.true)
+    omega (arith, c.loop-d.invariant, c.units_across-total.ensures, sum_drop_more (part c.args.first c.args.second) c.args.demands.now c.loop-d.d-index none c.loop-d-test.true)
 
 pub returns : goal.returns
 returns c = omega (arith, c.loop-d.invariant, at_drop_all (λ ds. cut ds c.args.first c.args.second) c.args.demands.now c.loop-d.d-index c.loop-d-test.false)

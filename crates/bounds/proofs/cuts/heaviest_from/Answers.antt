@@ -15,7 +15,7 @@ loop-i-preserved c =
     let e = c.args.e in
     let i = c.loop-i.i in
     let made : ℕ → Best Cut (Reverse ℕ) = λ t. heavy_cut (record { first = e; second = e + 1 + i; total = t }) in
-    filled_more (λ f. heavy_cut (cut_at ds e f)) (e + 1) c.loop-i.cuts i _ (omega arith) (ap made c.cut-total-total.ensures) c.loop-i.invariant
+    filled_more (λ f. heavy_cut (cut_at ds e f)) (e + 1) c.loop-i.cuts i _ (omega arith) (ap made c.cut_total-total.ensures) c.loop-i.invariant
 
 pub returns : goal.returns
 returns c =

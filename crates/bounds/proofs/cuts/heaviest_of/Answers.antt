@@ -16,7 +16,7 @@ loop-i-preserved c =
     let i = c.loop-i.i in
     let turn : i + 1 ≡ 1 + i = omega arith in
     filled_more (λ e. heavy_cut (cut_at ds e (heaviest_after n ds e))) 1 c.loop-i.firsts i _ (omega arith)
-    (ap heavy_cut (c.heaviest-after-heaviest.ensures ∙ ap (λ e. cut_at ds e (heaviest_after n ds e)) turn)) c.loop-i.invariant
+    (ap heavy_cut (c.heaviest_after-heaviest.ensures ∙ ap (λ e. cut_at ds e (heaviest_after n ds e)) turn)) c.loop-i.invariant
 
 pub returns : goal.returns
 returns c =

@@ -7,10 +7,10 @@ pub returns : goal.returns
 returns c =
     let n = c.args.n in
     let ds = c.args.demands.now in
-    let top = c.heaviest-cut.ensures.heaviest.greatest in
+    let top = c.heaviest_cut.ensures.heaviest.greatest in
     record {
-      value = omega (arith, c.half-up.ensures, top);
-      least = λ apart rival plan. omega (arith, c.half-up.ensures, top, heaviest_bound n ds rival apart plan);
+      value = omega (arith, c.half_up.ensures, top);
+      least = λ apart rival plan. omega (arith, c.half_up.ensures, top, heaviest_bound n ds rival apart plan);
       cuts = plans_pay_for_cuts n ds;
       loads = loads_fit_slots n ds;
     }

@@ -11,7 +11,7 @@ loop-i-preserved c =
     let i = c.loop-i.i in
     let turn : i + 1 ≡ 1 + i = omega arith in
     let made : ℕ → ℕ → Best ℕ ℕ = λ e m. record { candidate = e; measure = m } in
-    filled_more (loaded_link routes) 1 c.loop-i.loads i _ (omega arith) (ap₂ made turn (c.load-of.ensures ∙ ap (route_load routes) turn)) c.loop-i.invariant
+    filled_more (loaded_link routes) 1 c.loop-i.loads i _ (omega arith) (ap₂ made turn (c.load_of.ensures ∙ ap (route_load routes) turn)) c.loop-i.invariant
 
 pub returns : goal.returns
 returns c =

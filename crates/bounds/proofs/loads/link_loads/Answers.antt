@@ -7,4 +7,4 @@ returns c =
     let low = c.requires.ring.0 in
     let high = c.requires.ring.1 in
     let routes = c.args.routes.now in
-    record { value = c.sum-loads.ensures; lawful = loads_fit_the_heaviest_cut c.args.n low high routes; shut = shut_routes_load_cuts c.args.n low high routes }
+    record { value = c.sum_loads.ensures; lawful = loads_fit_the_heaviest_cut c.args.n low high routes; shut = shut_routes_load_cuts c.args.n low high routes }

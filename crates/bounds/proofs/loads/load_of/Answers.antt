@@ -13,14 +13,14 @@ none = record { demand = record { number = 0; lower = 0; upper = 0; units = 0 };
 abbrev part : ℕ → Route → ℕ
 part e d = cond (holds d e) d.demand.units 0
 
-pub overflow-add-sum : goal.overflow-add-sum
-overflow-add-sum c =
+pub overflow_add-sum : goal.overflow_add-sum
+overflow_add-sum c =
     let more = sum_drop_more (part c.args.link) c.args.routes.now c.loop-d.d-index none c.loop-d-test.true in
-    omega (arith, c.loop-d.invariant, c.units-over-sum.ensures, more, part_le (λ (d : Route). holds d c.args.link) (λ (d : Route). d.demand.units) c.args.routes.now, c.requires)
+    omega (arith, c.loop-d.invariant, c.units_over-sum.ensures, more, part_le (λ (d : Route). holds d c.args.link) (λ (d : Route). d.demand.units) c.args.routes.now, c.requires)
 
 pub loop-d-preserved : goal.loop-d-preserved
 loop-d-preserved c =
-    omega (arith, c.loop-d.invariant, c.units-over-sum.ensures, sum_drop_more (part c.args.link) c.args.routes.now c.loop-d.d-index none c.loop-d-test.true)
+    omega (arith, c.loop-d.invariant, c.units_over-sum.ensures, sum_drop_more (part c.args.link) c.args.routes.now c.loop-d.d-index none c.loop-d-test.true)
 
 pub returns : goal.returns
 returns c = omega (arith, c.loop-d.invariant, at_drop_all (λ ds. route_load ds c.args.link) c.args.routes.now c.loop-d.d-index c.loop-d-test.false)

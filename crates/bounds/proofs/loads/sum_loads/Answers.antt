@@ -6,8 +6,8 @@ use Rattle.bounds.proofs.loads.sum_loads.Goals as goal
 pub loop-e-preserved : goal.loop-e-preserved
 loop-e-preserved c =
     let g = route_load c.args.routes.now in
-    subst (λ k. Filled g (c.loop-e.e + 1) (set c.loop-e.loads k c.load-of.result)) (sym c.from.ensures)
-    (filled_link g c.loop-e.e c.loop-e.loads c.load-of.result (omega arith) c.load-of.ensures c.loop-e.invariant)
+    subst (λ k. Filled g (c.loop-e.e + 1) (set c.loop-e.loads k c.load_of.result)) (sym c.from.ensures)
+    (filled_link g c.loop-e.e c.loop-e.loads c.load_of.result (omega arith) c.load_of.ensures c.loop-e.invariant)
 
 pub returns : goal.returns
 returns c =

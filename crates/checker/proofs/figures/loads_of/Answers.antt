@@ -5,14 +5,14 @@ use Rattle.ring.proofs.PerLink.{Filled, filled_link, filled_links}
 use Rattle.checker.proofs.Numbers.{load_few}
 use Rattle.checker.proofs.figures.loads_of.Goals as goal
 
-pub overflow-cast-loads : goal.overflow-cast-loads
-overflow-cast-loads c = omega (arith, c.load-of.ensures, load_few c.args.lines.now c.args.rows.now (c.loop-e.e + 1), c.requires.few)
+pub overflow_cast-loads : goal.overflow_cast-loads
+overflow_cast-loads c = omega (arith, c.load_of.ensures, load_few c.args.lines.now c.args.rows.now (c.loop-e.e + 1), c.requires.few)
 
 pub loop-e-preserved : goal.loop-e-preserved
 loop-e-preserved c =
     let g = load c.args.lines.now c.args.rows.now in
-    subst (λ k. Filled g (c.loop-e.e + 1) (set c.loop-e.loads k c.load-of.result)) (sym c.from.ensures)
-    (filled_link g c.loop-e.e c.loop-e.loads c.load-of.result (omega arith) c.load-of.ensures c.loop-e.invariant)
+    subst (λ k. Filled g (c.loop-e.e + 1) (set c.loop-e.loads k c.load_of.result)) (sym c.from.ensures)
+    (filled_link g c.loop-e.e c.loop-e.loads c.load_of.result (omega arith) c.load_of.ensures c.loop-e.invariant)
 
 pub returns : goal.returns
 returns c =

@@ -10,12 +10,12 @@ use Rattle.checkrows.proofs.counts.check_counts.Goals as goal
 abbrev none : Demand
 none = record { number = 0; lower = 0; upper = 0; units = 0 }
 
-pub returns-then-count-differs : goal.returns-then-count-differs
-returns-then-count-differs c =
+pub returns-then-count_differs : goal.returns-then-count_differs
+returns-then-count_differs c =
     let lines = c.args.lines.now in
     let rows = c.args.rows.now in
     let i = c.loop-i.i in
-    let wrong : is_full rows (get_or lines i none) ≡ _ = ap (λ k. eqb k (get_or lines i none).units) (sym c.count-rows.ensures) ∙ not-true _ (sym c.count-differs.ensures ∙ c.if-count-differs.true) in
+    let wrong : is_full rows (get_or lines i none) ≡ _ = ap (λ k. eqb k (get_or lines i none).units) (sym c.count_rows.ensures) ∙ not-true _ (sym c.count_differs.ensures ∙ c.if-count_differs.true) in
     let z = prefix_len-drop_no (is_full rows) lines i none c.loop-i-test.true wrong in
     let e : prefix_len (is_full rows) lines ≡ i = omega (arith, c.loop-i.invariant, z) in
     let l : prefix_len (is_full rows) lines < length lines = omega (arith, e, c.loop-i-test.true) in
@@ -26,5 +26,5 @@ loop-i-preserved c =
     let lines = c.args.lines.now in
     let rows = c.args.rows.now in
     let i = c.loop-i.i in
-    let right : is_full rows (get_or lines i none) ≡ _ = ap (λ k. eqb k (get_or lines i none).units) (sym c.count-rows.ensures) ∙ not-false _ (sym c.count-differs.ensures ∙ c.if-count-differs.false) in
+    let right : is_full rows (get_or lines i none) ≡ _ = ap (λ k. eqb k (get_or lines i none).units) (sym c.count_rows.ensures) ∙ not-false _ (sym c.count_differs.ensures ∙ c.if-count_differs.false) in
     omega (arith, c.loop-i.invariant, prefix_len-drop_yes (is_full rows) lines i none c.loop-i-test.true right)

@@ -7,6 +7,6 @@ use Rattle.checkrows.proofs.routes.collide.Goals as goal
 
 pub returns-then-earlier-row : goal.returns-then-earlier-row
 returns-then-earlier-row c =
-    ap₂ (λ (a b : ℕ). not (eqb (bit_and a b) 0)) c.row-mask.ensures c.row-mask-then-earlier-row.ensures
+    ap₂ (λ (a b : ℕ). not (eqb (bit_and a b) 0)) c.row_mask.ensures c.row_mask-then-earlier-row.ensures
     ∙ masks_meet c.args.n c.args.lines.now c.args.row c.args.earlier
     ∙ ap (λ t. t && meet c.args.n c.args.lines.now c.args.row c.args.earlier) (sym (eq-eqb c.args.earlier.slot c.args.row.slot c.if-earlier-row.true))

@@ -9,75 +9,75 @@ use Rattle.frames.specs.Frames.{frame_of}
 use Rattle.frames.proofs.Steps.{Left, left_start, left_ended, left_more, line_refused, frame_refused, frame_taken, frame_formed, frame_unformed, read_end, outcome_counts}
 use Rattle.frames.proofs.read.read_file.Goals as goal
 
-pub returns-in-err-digits : goal.returns-in-err-digits
-returns-in-err-digits c =
+pub returns-in_err-digits : goal.returns-in_err-digits
+returns-in_err-digits c =
     let l = c.loop-rest in
     let D = length c.args.demands.now in
     let R = length c.args.rows.now in
-    let line = c.line-after-line.result in
-    let inv : Left D R c.args.text.now c.args.demands.now c.args.rows.now l.rest.now line l.p l.demands l.rows = subst (λ n. Left D R c.args.text.now c.args.demands.now c.args.rows.now l.rest.now n l.p l.demands l.rows) (sym c.line-after-line.ensures) l.invariant in
-    let h = c.in-err-digits.ensures in
+    let line = c.line_after-line.result in
+    let inv : Left D R c.args.text.now c.args.demands.now c.args.rows.now l.rest.now line l.p l.demands l.rows = subst (λ n. Left D R c.args.text.now c.args.demands.now c.args.rows.now l.rest.now n l.p l.demands l.rows) (sym c.line_after-line.ensures) l.invariant in
+    let h = c.in_err-digits.ensures in
     let some : 0 < length l.rest.now = omega arith in
     let e = Line (fault_of line l.rest.now) in
     let r = left_ended D R c.args.text.now c.args.demands.now c.args.rows.now l.rest.now line l.p l.demands l.rows inv (Err e) (line_refused D R l.rest.now some line l.p e (frame_unformed D R l.rest.now some line l.p h.not_formed)) in
-    let x = err_from_is_err_and c.from-residual.result c.from-residual.ensures.1 in
+    let x = err_from_is_err_and c.from_residual.result c.from_residual.ensures.1 in
     let y = x.1 ∙ ap Err (x.2 ∙ ap Line h.fault) in
-    record { answer = y ∙ r.0; demands = r.1; rows = r.2; counts = IfOk-from_err c.from-residual.result _ c.from-residual.ensures.0 }
+    record { answer = y ∙ r.0; demands = r.1; rows = r.2; counts = IfOk-from_err c.from_residual.result _ c.from_residual.ensures.0 }
 
-pub returns-in-err-frame : goal.returns-in-err-frame
-returns-in-err-frame c =
+pub returns-in_err-frame : goal.returns-in_err-frame
+returns-in_err-frame c =
     let l = c.loop-rest in
     let D = length c.args.demands.now in
     let R = length c.args.rows.now in
-    let line = c.line-after-line.result in
-    let inv : Left D R c.args.text.now c.args.demands.now c.args.rows.now l.rest.now line l.p l.demands l.rows = subst (λ n. Left D R c.args.text.now c.args.demands.now c.args.rows.now l.rest.now n l.p l.demands l.rows) (sym c.line-after-line.ensures) l.invariant in
+    let line = c.line_after-line.result in
+    let inv : Left D R c.args.text.now c.args.demands.now c.args.rows.now l.rest.now line l.p l.demands l.rows = subst (λ n. Left D R c.args.text.now c.args.demands.now c.args.rows.now l.rest.now n l.p l.demands l.rows) (sym c.line_after-line.ensures) l.invariant in
     let some : 0 < length l.rest.now = omega arith in
-    let k = c.in-ok-digits.ensures in
-    let e = c.in-err-frame.field-0.0 in
-    let f : frame_in line (line_bytes line l.rest.now) ≡ Err e = frame_formed D R l.rest.now some line l.p k.formed ∙ ap (λ ds. frame_of line (bytes_of ds)) (sym k.front) ∙ sym c.in-err-frame.ensures in
+    let k = c.in_ok-digits.ensures in
+    let e = c.in_err-frame.field-0.0 in
+    let f : frame_in line (line_bytes line l.rest.now) ≡ Err e = frame_formed D R l.rest.now some line l.p k.formed ∙ ap (λ ds. frame_of line (bytes_of ds)) (sym k.front) ∙ sym c.in_err-frame.ensures in
     let r = left_ended D R c.args.text.now c.args.demands.now c.args.rows.now l.rest.now line l.p l.demands l.rows inv (Err e) (line_refused D R l.rest.now some line l.p e f) in
-    let x = err_from_is_err_and c.from-residual-in-err-frame.result c.from-residual-in-err-frame.ensures.1 in
-    record { answer = x.1 ∙ ap Err x.2 ∙ r.0; demands = r.1; rows = r.2; counts = IfOk-from_err c.from-residual-in-err-frame.result _ c.from-residual-in-err-frame.ensures.0 }
+    let x = err_from_is_err_and c.from_residual-in_err-frame.result c.from_residual-in_err-frame.ensures.1 in
+    record { answer = x.1 ∙ ap Err x.2 ∙ r.0; demands = r.1; rows = r.2; counts = IfOk-from_err c.from_residual-in_err-frame.result _ c.from_residual-in_err-frame.ensures.0 }
 
-pub returns-in-err-p : goal.returns-in-err-p
-returns-in-err-p c =
+pub returns-in_err-p : goal.returns-in_err-p
+returns-in_err-p c =
     let l = c.loop-rest in
     let D = length c.args.demands.now in
     let R = length c.args.rows.now in
-    let line = c.line-after-line.result in
-    let inv : Left D R c.args.text.now c.args.demands.now c.args.rows.now l.rest.now line l.p l.demands l.rows = subst (λ n. Left D R c.args.text.now c.args.demands.now c.args.rows.now l.rest.now n l.p l.demands l.rows) (sym c.line-after-line.ensures) l.invariant in
+    let line = c.line_after-line.result in
+    let inv : Left D R c.args.text.now c.args.demands.now c.args.rows.now l.rest.now line l.p l.demands l.rows = subst (λ n. Left D R c.args.text.now c.args.demands.now c.args.rows.now l.rest.now n l.p l.demands l.rows) (sym c.line_after-line.ensures) l.invariant in
     let some : 0 < length l.rest.now = omega arith in
-    let k = c.in-ok-digits.ensures in
-    let h = c.in-err-p.ensures in
-    let e = c.in-err-p.field-0.0 in
-    let g = c.in-ok-frame.frame in
-    let f : frame_in line (line_bytes line l.rest.now) ≡ Ok g = frame_formed D R l.rest.now some line l.p k.formed ∙ ap (λ ds. frame_of line (bytes_of ds)) (sym k.front) ∙ sym c.in-ok-frame.ensures in
+    let k = c.in_ok-digits.ensures in
+    let h = c.in_err-p.ensures in
+    let e = c.in_err-p.field-0.0 in
+    let g = c.in_ok-frame.frame in
+    let f : frame_in line (line_bytes line l.rest.now) ≡ Ok g = frame_formed D R l.rest.now some line l.p k.formed ∙ ap (λ ds. frame_of line (bytes_of ds)) (sym k.front) ∙ sym c.in_ok-frame.ensures in
     let t : taken D R line l.p g ≡ Err e = sym (h.answer ∙ ap (λ n. taken n (length l.rows) line l.p g) l.auto.demands ∙ ap (λ n. taken D n line l.p g) l.auto.rows) in
     let r = left_ended D R c.args.text.now c.args.demands.now c.args.rows.now l.rest.now line l.p l.demands l.rows inv (Err e) (frame_refused D R l.rest.now some line l.p g e f t) in
-    let x = err_from_is_err_and c.from-residual-in-err-p.result c.from-residual-in-err-p.ensures.1 in
-    record { answer = x.1 ∙ ap Err x.2 ∙ r.0; demands = h.demands ∙ r.1; rows = h.rows ∙ r.2; counts = IfOk-from_err c.from-residual-in-err-p.result _ c.from-residual-in-err-p.ensures.0 }
+    let x = err_from_is_err_and c.from_residual-in_err-p.result c.from_residual-in_err-p.ensures.1 in
+    record { answer = x.1 ∙ ap Err x.2 ∙ r.0; demands = h.demands ∙ r.1; rows = h.rows ∙ r.2; counts = IfOk-from_err c.from_residual-in_err-p.result _ c.from_residual-in_err-p.ensures.0 }
 
 pub loop-rest-preserved : goal.loop-rest-preserved
 loop-rest-preserved c =
     let l = c.loop-rest in
     let D = length c.args.demands.now in
     let R = length c.args.rows.now in
-    let line = c.line-after-line.result in
-    let inv : Left D R c.args.text.now c.args.demands.now c.args.rows.now l.rest.now line l.p l.demands l.rows = subst (λ n. Left D R c.args.text.now c.args.demands.now c.args.rows.now l.rest.now n l.p l.demands l.rows) (sym c.line-after-line.ensures) l.invariant in
+    let line = c.line_after-line.result in
+    let inv : Left D R c.args.text.now c.args.demands.now c.args.rows.now l.rest.now line l.p l.demands l.rows = subst (λ n. Left D R c.args.text.now c.args.demands.now c.args.rows.now l.rest.now n l.p l.demands l.rows) (sym c.line_after-line.ensures) l.invariant in
     let some : 0 < length l.rest.now = omega arith in
-    let k = c.in-ok-digits.ensures in
-    let h = c.in-ok-p.ensures in
-    let q = c.in-ok-p.p in
-    let g = c.in-ok-frame.frame in
-    let f : frame_in line (line_bytes line l.rest.now) ≡ Ok g = frame_formed D R l.rest.now some line l.p k.formed ∙ ap (λ ds. frame_of line (bytes_of ds)) (sym k.front) ∙ sym c.in-ok-frame.ensures in
+    let k = c.in_ok-digits.ensures in
+    let h = c.in_ok-p.ensures in
+    let q = c.in_ok-p.p in
+    let g = c.in_ok-frame.frame in
+    let f : frame_in line (line_bytes line l.rest.now) ≡ Ok g = frame_formed D R l.rest.now some line l.p k.formed ∙ ap (λ ds. frame_of line (bytes_of ds)) (sym k.front) ∙ sym c.in_ok-frame.ensures in
     let t : taken D R line l.p g ≡ Ok q = sym (h.answer ∙ ap (λ n. taken n (length l.rows) line l.p g) l.auto.demands ∙ ap (λ n. taken D n line l.p g) l.auto.rows) in
-    let n = length c.in-ok-digits.digits.now + 1 in
+    let n = length c.in_ok-digits.digits.now + 1 in
     let rest = take (length l.rest.now - n) (drop n l.rest.now) in
     let same : drop (digits l.rest.now + 1) l.rest.now ≡ rest = sym (take_rest l.rest.now n ∙ ap (λ m. drop (m + 1) l.rest.now) k.count) in
     let fewer : length rest < length l.rest.now = omega (arith, ap length (take_rest l.rest.now n), length-drop n l.rest.now) in
     let w = frame_taken D R l.rest.now some line l.p g q k.formed f t ∙ ap (λ xs. began g (read_lines D R (line + 1) q (lines_of xs))) same in
-    let next : Left D R c.args.text.now c.args.demands.now c.args.rows.now rest (line + 1) q c.take-frame.new.demands c.take-frame.new.rows = left_more D R c.args.text.now c.args.demands.now c.args.rows.now l.rest.now line l.p l.demands l.rows inv g q rest c.take-frame.new.demands c.take-frame.new.rows w t h.demands h.rows fewer in
-    subst (λ n. Left D R c.args.text.now c.args.demands.now c.args.rows.now rest (n + 1) q c.take-frame.new.demands c.take-frame.new.rows) c.line-after-line.ensures next
+    let next : Left D R c.args.text.now c.args.demands.now c.args.rows.now rest (line + 1) q c.take_frame.new.demands c.take_frame.new.rows = left_more D R c.args.text.now c.args.demands.now c.args.rows.now l.rest.now line l.p l.demands l.rows inv g q rest c.take_frame.new.demands c.take_frame.new.rows w t h.demands h.rows fewer in
+    subst (λ n. Left D R c.args.text.now c.args.demands.now c.args.rows.now rest (n + 1) q c.take_frame.new.demands c.take_frame.new.rows) c.line_after-line.ensures next
 
 pub loop-rest-init : goal.loop-rest-init
 loop-rest-init c =
@@ -93,6 +93,6 @@ returns c =
     let none : length l.rest.now ≡ 0 = omega arith in
     let line = l.lines + 1 in
     let e = c.stop.result in
-    let s : stopped line l.p l.p.state ≡ e = ap (λ n. stopped n l.p l.p.state) (sym c.line-after.ensures) ∙ sym c.stop.ensures in
+    let s : stopped line l.p l.p.state ≡ e = ap (λ n. stopped n l.p l.p.state) (sym c.line_after.ensures) ∙ sym c.stop.ensures in
     let r = left_ended D R c.args.text.now c.args.demands.now c.args.rows.now l.rest.now line l.p l.demands l.rows l.invariant e (read_end D R line l.p l.rest.now e none s) in
     record { answer = r.0; demands = r.1; rows = r.2; counts = outcome_counts D R c.args.text.now e r.0 }

@@ -6,9 +6,9 @@ use Rattle.placing.proofs.rows.push_rows.Goals as goal
 
 pub loop-slot-preserved : goal.loop-slot-preserved
 loop-slot-preserved c = (
-  push_more c.args.d.now c.args.slots.now c.loop-slot.slot-index c.code.result (vec_items c.args.rows.now) (vec_items c.loop-slot.rows) _ c.loop-slot-test.true c.code.ensures c.loop-slot.invariant.0 c.push-reserved.ensures.items,
-  omega (arith, c.push-reserved.ensures.len, c.loop-slot.invariant.1),
-  omega (arith, c.push-reserved.ensures.capacity, c.loop-slot.invariant.2),
+  push_more c.args.d.now c.args.slots.now c.loop-slot.slot-index c.code.result (vec_items c.args.rows.now) (vec_items c.loop-slot.rows) _ c.loop-slot-test.true c.code.ensures c.loop-slot.invariant.0 c.push_reserved.ensures.items,
+  omega (arith, c.push_reserved.ensures.len, c.loop-slot.invariant.1),
+  omega (arith, c.push_reserved.ensures.capacity, c.loop-slot.invariant.2),
 )
 
 pub returns : goal.returns

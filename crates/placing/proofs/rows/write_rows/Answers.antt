@@ -7,13 +7,13 @@ use Rattle.placing.proofs.rows.write_rows.Goals as goal
 abbrev no_route : Route
 no_route = record { demand = record { number = 0; lower = 0; upper = 0; units = 0 }; side = Clockwise }
 
-pub slice-bounds-push-rows-end : goal.slice-bounds-push-rows-end
-slice-bounds-push-rows-end c =
+pub slice_bounds-push_rows-end : goal.slice_bounds-push_rows-end
+slice_bounds-push_rows-end c =
     let lt : c.loop-d.d-index < length c.args.routes.now = omega arith in
     omega (arith, c.loop-d.invariant.0, units_more c.args.routes.now c.args.slots.now c.loop-d.d-index c.loop-d.at no_route lt)
 
-pub push-rows-requires : goal.push-rows-requires
-push-rows-requires c =
+pub push_rows-requires : goal.push_rows-requires
+push_rows-requires c =
     let lt : c.loop-d.d-index < length c.args.routes.now = omega arith in
     omega (
       arith,
@@ -33,9 +33,9 @@ loop-d-preserved c =
     let more = units_more routes slots i at no_route lt in
     let part = part_is routes slots i at no_route lt c.loop-d.invariant.0 in (
       omega (arith, more, c.loop-d.invariant.0),
-      rows_more routes slots i at no_route lt (vec_items c.loop-d.rows) _ _ c.push-rows.ensures.items c.loop-d.invariant.1,
-      omega (arith, more, part, c.push-rows.ensures.len, c.loop-d.invariant.2),
-      omega (arith, c.push-rows.ensures.capacity, c.loop-d.invariant.3),
+      rows_more routes slots i at no_route lt (vec_items c.loop-d.rows) _ _ c.push_rows.ensures.items c.loop-d.invariant.1,
+      omega (arith, more, part, c.push_rows.ensures.len, c.loop-d.invariant.2),
+      omega (arith, c.push_rows.ensures.capacity, c.loop-d.invariant.3),
     )
 
 pub returns : goal.returns

@@ -11,8 +11,8 @@ returns g c =
     let ds = c.args.demands.now in
     let well = draws_well n (g.R.Rule.side rule) ds c.requires.limits (g.R.Rule.parallel rule) in
     record {
-      answer = c.draw-lent.ensures.answer;
-      room = c.draw-lent.ensures.room;
-      blank = c.draw-lent.ensures.blank;
-      well = made_by c.draw-lent.result _ _ _ c.draw-lent.ensures.answer (λ s drew. subst (WellDrawn n ds) (sym drew.rows_are) well);
+      answer = c.draw_lent.ensures.answer;
+      room = c.draw_lent.ensures.room;
+      blank = c.draw_lent.ensures.blank;
+      well = made_by c.draw_lent.result _ _ _ c.draw_lent.ensures.answer (λ s drew. subst (WellDrawn n ds) (sym drew.rows_are) well);
     }

@@ -9,8 +9,8 @@ returns c =
     let n = c.args.n in
     let ds = c.args.demands.now in
     record {
-      answer = c.draw-best.ensures.answer;
-      room = c.draw-best.ensures.room;
-      blank = c.draw-best.ensures.blank;
-      best = made_by c.draw-best.result _ _ _ c.draw-best.ensures.answer (λ b drew. subst₂ (BestDrawn n ds) (sym drew.0) (sym drew.1.rows_are) (draws_best n ds c.requires.limits));
+      answer = c.draw_best.ensures.answer;
+      room = c.draw_best.ensures.room;
+      blank = c.draw_best.ensures.blank;
+      best = made_by c.draw_best.result _ _ _ c.draw_best.ensures.answer (λ b drew. subst₂ (BestDrawn n ds) (sym drew.0) (sym drew.1.rows_are) (draws_best n ds c.requires.limits));
     }

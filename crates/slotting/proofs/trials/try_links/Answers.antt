@@ -5,8 +5,8 @@ use Rattle.drawn.specs.Slotting.{slots_shut}
 use Rattle.slotting.specs.Answers.{trial}
 use Rattle.slotting.proofs.trials.try_links.Goals as goal
 
-pub try-link-requires : goal.try-link-requires
-try-link-requires c =
+pub try_link-requires : goal.try_link-requires
+try_link-requires c =
     record {
       limits = c.requires.limits;
       link = (omega arith, omega (arith, c.requires.limits.most, c.requires.trials, c.loop-i.auto.trials));
@@ -16,7 +16,7 @@ try-link-requires c =
 
 pub loop-i-preserved : goal.loop-i-preserved
 loop-i-preserved c =
-    let tried = c.in-ok-slots.ensures in
+    let tried = c.in_ok-slots.ensures in
     let n = c.args.n in
     let ds = c.args.demands.now in
     let i = c.loop-i.i in
