@@ -7,5 +7,5 @@ use Rattle.report.proofs.put_loads.Goals as goal
 pub returns : goal.returns
 returns c =
     IfOk-weaker c.put-2.result _ _
-    (λ x p. three _ (codes "loads") (spaced c.args.loads.now) (codes "\n") _ _ _ c.in-ok-put.ensures c.in-ok-put-numbers.ensures p)
+    (λ x p. three _ (codes "loads") (spaced c.args.loads.now) (codes "\n") _ _ _ c.in_ok-put.ensures c.in_ok-put_numbers.ensures p)
     c.put-2.ensures

@@ -8,7 +8,7 @@ use Rattle.report.proofs.put_passed.Goals as goal
 pub returns : goal.returns
 returns c =
     let t = c.args.taken.now in
-    IfOk-weaker c.put-loads.result _ _
-    (λ x p. three _ (codes "passed\n") (entry_lines (figure_entries t)) (codes "loads" ++ (spaced (take t.nodes t.verdict.loads) ++ codes "\n")) _ _ _ c.in-ok-put.ensures c.in-ok-put-figures.ensures
-    (same_piece (vec_items c.put-figures.new.out) _ (λ ls. codes "loads" ++ (spaced ls ++ codes "\n")) _ _ c.requires p))
-    c.put-loads.ensures
+    IfOk-weaker c.put_loads.result _ _
+    (λ x p. three _ (codes "passed\n") (entry_lines (figure_entries t)) (codes "loads" ++ (spaced (take t.nodes t.verdict.loads) ++ codes "\n")) _ _ _ c.in_ok-put.ensures c.in_ok-put_figures.ensures
+    (same_piece (vec_items c.put_figures.new.out) _ (λ ls. codes "loads" ++ (spaced ls ++ codes "\n")) _ _ c.requires p))
+    c.put_loads.ensures

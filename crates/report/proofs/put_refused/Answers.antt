@@ -12,8 +12,8 @@ use Rattle.report.proofs.put_refused.Goals as goal
 pub returns : goal.returns
 returns c =
     let f = c.args.refusal in
-    IfOk-weaker c.put-fault-line.result _ _
+    IfOk-weaker c.put_fault_line.result _ _
     (λ x p. four _ (entry_lines (known Refused (refusal_number f) ∷ [])) (key_line (codes "cause") (cause_words f)) (entry_lines (place_entries c.args.line (detail_of f)))
     (codes "text " ++ (shown_bytes (line_at c.args.text.now c.args.line) ++ codes "\n")) _ _ _ _
-    c.in-ok-put-cause.ensures (same_piece (vec_items c.put-cause.new.out) _ (key_line (codes "cause")) _ _ c.cause-words.ensures c.in-ok-put-line.ensures) c.in-ok-put-place.ensures p)
-    c.put-fault-line.ensures
+    c.in_ok-put_cause.ensures (same_piece (vec_items c.put_cause.new.out) _ (key_line (codes "cause")) _ _ c.cause_words.ensures c.in_ok-put_line.ensures) c.in_ok-put_place.ensures p)
+    c.put_fault_line.ensures

@@ -3,8 +3,8 @@ use Rattle.planfile.specs.Places.{Named}
 use Rattle.planfile.proofs.Naming.{named_in}
 use Rattle.planfile.proofs.take.judge.Goals as goal
 
-pub line-of-requires : goal.line-of-requires
-line-of-requires c =
+pub line_of-requires : goal.line_of-requires
+line_of-requires c =
     let e = c.in-Err.refusal in
     let p = c.args.p in
     let h : Named (length c.args.lines.now) (length c.args.rows.now) e = named_in p.nodes c.args.lines.now c.args.rows.now (length c.args.marks.now) e (sym c.in-Err.ensures.answer) in

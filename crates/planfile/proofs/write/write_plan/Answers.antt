@@ -13,10 +13,10 @@ returns c =
     let ds = c.args.demands.now in
     let rs = c.args.rows.now in
     let old = c.args.bytes.now in
-    let e : c.count-slots.result ≡ slot_count rs = c.count-slots.ensures in
-    let h = c.write-file.ensures in
-    let r = c.write-file.result in
-    let new = c.write-file.new.bytes in
+    let e : c.count_slots.result ≡ slot_count rs = c.count_slots.ensures in
+    let h = c.write_file.ensures in
+    let r = c.write_file.result in
+    let new = c.write_file.new.bytes in
     let b : IfOk r (λ m. ReadsBack k n ds rs (slot_count rs) (take m new)) = subst (λ s. IfOk r (λ m. ReadsBack k n ds rs s (take m new))) e h.back in
     record {
       answer = h.answer ∙ ap (λ s. fronting (file_text k n ds rs s) old) e;
