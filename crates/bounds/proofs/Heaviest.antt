@@ -1,6 +1,6 @@
 -- The heaviest cut with its links is a cut of the ring, none is heavier, and each that comes before it is lighter.
-use Rattle.std.proofs.Common.{◌≡◌, ℕ, ◌+◌, ◌-◌, ◌<◌, ◌≤◌, List, refl, ap, ◌∙◌, subst, ⊎_elim, arith}
-use Rattle.ring.specs.Ring.{cut, heaviest}
+use Rattle.std.proofs.Common.{◌≡◌, ℕ, ◌+◌, ◌-◌, ◌<◌, ◌≤◌, List, refl, ap, ⊎_elim, arith}
+use Rattle.ring.specs.Ring.{cut}
 use Rattle.ring.specs.Cuts.{heaviest_after, heaviest_first, heaviest_cut, Pair, Before, HeaviestCut}
 use Rattle.ring.specs.declared.Demand.{Demand}
 use Rattle.ring.proofs.FirstBest.{first_most_lem}

@@ -1,8 +1,7 @@
 -- Routes that all avoid one link, and the heaviest cut against a plan.
-use Rattle.std.proofs.Common.{◌≡◌, ℕ, ◌+◌, ◌≤◌, min, Bool, true, false, cond, not, ◌&&◌, eqb, List, [], ◌∷◌, refl, ap, ◌∙◌, arith}
-use Rattle.std.proofs.lemmas.Bool.Decides.{nat_tests}
+use Rattle.std.proofs.Common.{◌≡◌, ℕ, ◌+◌, ◌≤◌, min, Bool, true, false, cond, not, eqb, List, [], ◌∷◌, refl, ap, ◌∙◌, arith}
 use Rattle.ring.specs.Ring.{within, over, differ, cut, Ends, load, slot_count}
-use Rattle.ring.specs.Sides.{code, chosen_load, route_load, on_ring, shut}
+use Rattle.ring.specs.Sides.{code, chosen_load, route_load, shut}
 use Rattle.bounds.specs.Claims.{ShutLoadsAreCuts, ShutLoadsFitRivals, PlansPayForTheHeaviest, ShutRoutesLoadCuts}
 use Rattle.ring.specs.declared.Route.{Route}
 use Rattle.ring.specs.declared.Side.{Side}

@@ -3,9 +3,7 @@ use Rattle.std.specs.Prelude.{ℕ, List}
 use Rattle.std.specs.declared.cmp.Reverse.{Reverse}
 use Rattle.ring.specs.Sides.{route_load}
 use Rattle.ring.specs.Choosing.{first_least}
-use Rattle.ring.specs.Cuts.{cut_at}
 use Rattle.ring.specs.declared.Cut.{Cut}
-use Rattle.ring.specs.declared.Demand.{Demand}
 use Rattle.ring.specs.declared.Route.{Route}
 use Rattle.ring.specs.declared.choosing.Best.{Best}
 

@@ -1,5 +1,5 @@
 -- The verdict passes exactly the plans.
-use Rattle.std.proofs.Common.{◌≡◌, ℕ, ◌-◌, ◌≤◌, true, not, ltb, leb, List, is_ok, Some, None, Ok, Err, Option, Result, refl, ap, ◌∙◌}
+use Rattle.std.proofs.Common.{◌≡◌, ℕ, ◌≤◌, true, not, ltb, leb, List, is_ok, Some, None, Ok, Err, Option, Result, refl, ap, ◌∙◌}
 use Rattle.std.proofs.lemmas.Bool.{and_parts, and_from, not-false, not_from_true, leb-true, le-leb, le-ltb, ltb-false, false≢true}
 use Rattle.ring.specs.Ring.{Plan}
 use Rattle.checkrows.specs.Rows.{OnSheet}

@@ -1,5 +1,5 @@
 -- A report for people and scripts alike: lines of a key and a value. Text is a list of bytes.
-use Rattle.std.specs.Prelude.{ℕ, ◌+◌, ◌/◌, ◌%◌, Bool, cond, ◌&&◌, List, [], ◌∷◌, ◌++◌, Some, None, codes, decimal, Option, ◌==◌, nat_le, nat_lt}
+use Rattle.std.specs.Prelude.{ℕ, ◌+◌, ◌/◌, ◌%◌, cond, ◌&&◌, List, [], ◌∷◌, ◌++◌, Some, None, codes, decimal, Option, ◌==◌, nat_le, nat_lt}
 use Rattle.std.specs.List.{flat_map}
 use Rattle.keylines.specs.declared.Key.{Key}
 use Rattle.keylines.specs.declared.Key.TheVariants.{Book, Nodes, Demands, Units, Slots, Refused, Line, Character, Needed, Place, Row, Met}

@@ -1,5 +1,5 @@
 -- Lists written over places, and the lines and bytes written so.
-use Rattle.std.proofs.Common.{◌≡◌, ℕ, suc, ◌+◌, ◌-◌, ◌*◌, ◌/◌, ◌%◌, ◌<◌, ◌≤◌, List, [], ◌∷◌, ◌++◌, length, get_or, take, drop, set, sym, refl, ap, ◌∙◌, arith}
+use Rattle.std.proofs.Common.{◌≡◌, ℕ, suc, ◌+◌, ◌*◌, ◌/◌, ◌%◌, ◌<◌, ◌≤◌, List, [], ◌∷◌, ◌++◌, length, get_or, take, drop, set, sym, refl, ap, ◌∙◌, arith}
 use Rattle.std.proofs.lemmas.List.{length-drop, length-set, take_more_set, drop-set-lt, append_assoc, take-append-drop, at_drop_more, at_drop_all}
 use Rattle.lines.specs.Hex.{digit_char, value_of, bytes_of}
 use Rattle.lines.specs.Lines.{line_text}

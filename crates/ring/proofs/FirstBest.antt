@@ -1,12 +1,12 @@
 -- The first best of numbers in a row, and the steps of the loop that keeps the best so far.
 use Rattle.std.proofs.Common.{◌≡◌, ℕ, zero, suc, ◌+◌, ◌-◌, ◌<◌, ◌≤◌, Bool, true, false, cond, eqb, ltb, List, [], ◌∷◌, ◌++◌, map, length, get_or, take, set, Ordering, Less, Equal, Greater, sym, refl, ap, ◌∙◌, subst, ap₂, arith}
-use Rattle.std.specs.List.{range_with_len, AllByRecursion as All, IsFirstBest, best_of}
+use Rattle.std.specs.List.{range_with_len, IsFirstBest, best_of}
 use Rattle.std.specs.Cmp.{IsTotalOrder, nat_cmp_total, on_total, back_total, IsStrictWeakOrder}
-use Rattle.std.specs.Ordering.{is_lt, MatchOrdering, nat_cmp}
+use Rattle.std.specs.Ordering.{is_lt, nat_cmp}
 use Rattle.std.proofs.lemmas.List.MinMax.{ranks_by, IsStrictWeakOrder-by_number, IsStrictWeakOrder-flip, IsFirstBest-keeps, IsFirstBest-takes, IsFirstBest-unique, IsFirstBest-from_best_of}
 use Rattle.std.proofs.lemmas.List.FromFn.{length-range_with_len, get_or-range_with_len}
 use Rattle.std.proofs.lemmas.List.{length-map, get_or-map, map-append, take_more_set, take_all}
-use Rattle.std.proofs.lemmas.Bool.{cond_both, ltb-true, ltb-false}
+use Rattle.std.proofs.lemmas.Bool.{ltb-true, ltb-false}
 use Rattle.std.specs.declared.cmp.Reverse.{Reverse}
 use Rattle.ring.specs.declared.choosing.Best.{Best}
 use Rattle.ring.specs.Choosing.{beats, Leads, FirstBest, first_from, first_least, first_most, FirstLeast, FirstMost}

@@ -1,5 +1,5 @@
 -- A route as a link mask: a number in which bit e - 1 stands for the link e.
-use Rattle.std.specs.Prelude.{◌≡◌, ℕ, zero, suc, ◌+◌, ◌-◌, ◌*◌, ◌/◌, ◌%◌, ◌^◌, Bool, true, cond, ◌&&◌, ◌≢◌, bit_and}
+use Rattle.std.specs.Prelude.{◌≡◌, ℕ, zero, suc, ◌+◌, ◌-◌, ◌*◌, ◌/◌, ◌%◌, ◌^◌, Bool, true, cond, ◌≢◌, bit_and}
 use Rattle.ring.specs.Sums.{one}
 use Rattle.ring.specs.Ring.{over, Link}
 

@@ -1,5 +1,5 @@
 -- No lawful choice sends the pairs 1-2 and 2-3 of a three-node ring the long way.
-use Rattle.std.proofs.Common.{◌≡◌, ℕ, ◌≤◌, Bool, true, false, ltb, leb, sym, refl, ap, ◌∙◌, arith}
+use Rattle.std.proofs.Common.{◌≡◌, ℕ, false, sym, ap, ◌∙◌, arith}
 use Rattle.std.proofs.lemmas.Bool.Decides.{nat_tests}
 use Rattle.ring.specs.Ring.{over, Link}
 use Rattle.ring.specs.Sides.{code}

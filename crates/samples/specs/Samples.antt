@@ -1,6 +1,6 @@
 -- The known figures of some sample rings, by the definitions.
 use Rattle.std.specs.Prelude.{◌≡◌, ℕ, List, [], ◌∷◌}
-use Rattle.ring.specs.Ring.{cut, heaviest, lower_bound_of}
+use Rattle.ring.specs.Ring.{heaviest, lower_bound_of}
 use Rattle.ring.specs.Sides.{chosen_load, short_side, shut, light_side}
 use Rattle.ring.specs.Cuts.{cut_at, heaviest_cut}
 use Rattle.ring.specs.declared.Demand.{Demand}

@@ -1,5 +1,5 @@
 -- The sheet of marks. Mark k, counted from 0, is the union of the link masks of the units in slot k + 1.
-use Rattle.std.specs.Prelude.{◌≡◌, ℕ, ◌+◌, Bool, not, List, [], ◌∷◌, set, replicate, ◌==◌, bit_and, bit_or, slice_index, slice_set}
+use Rattle.std.specs.Prelude.{◌≡◌, ℕ, ◌+◌, Bool, not, List, [], ◌∷◌, replicate, ◌==◌, bit_and, bit_or, slice_index, slice_set}
 use Rattle.std.specs.List.{prefix_len}
 use Rattle.ring.specs.Sums.{count_of}
 

@@ -1,5 +1,5 @@
 -- What slotting gives for the sample rings, by the definitions.
-use Rattle.std.specs.Prelude.{◌≡◌, ℕ, List, [], ◌∷◌}
+use Rattle.std.specs.Prelude.{◌≡◌, ℕ, [], ◌∷◌}
 use Rattle.ring.specs.Ring.{slot_count}
 use Rattle.ring.specs.Sides.{short_side, shut}
 use Rattle.ring.specs.declared.Row.{Row}

@@ -1,4 +1,4 @@
-use Rattle.std.proofs.Common.{◌≡◌, ◌%◌, true, false, ◌&&◌, eqb, ltb, get_or, sym, arith}
+use Rattle.std.proofs.Common.{◌≡◌, ◌%◌, false, ◌&&◌, eqb, ltb, get_or, sym, arith}
 use Rattle.std.proofs.lemmas.List.{get_or_past}
 use Rattle.std.proofs.lemmas.Bool.{ne_eqb, and_left, false≢true}
 use Rattle.lines.proofs.is_formed.Goals as goal

@@ -1,4 +1,4 @@
-use Rattle.std.proofs.Common.{◌≡◌, ◌<◌}
+use Rattle.std.proofs.Common.{◌<◌}
 use Rattle.ring.specs.Choosing.{Leads}
 use Rattle.ring.proofs.choosing.first_best.Given as goal
 

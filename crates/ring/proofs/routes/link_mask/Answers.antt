@@ -1,4 +1,3 @@
-use Rattle.ring.specs.Ring.{over}
 use Rattle.ring.specs.Sides.{code}
 use Rattle.ring.proofs.Bits.{bit_for_each_link, meets_where_routes_share}
 use Rattle.ring.proofs.routes.link_mask.Goals as goal

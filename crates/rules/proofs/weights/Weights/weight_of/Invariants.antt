@@ -1,4 +1,4 @@
-use Rattle.std.proofs.Common.{◌≡◌, ◌-◌, ◌*◌, ◌≤◌}
+use Rattle.std.proofs.Common.{◌≡◌, ◌*◌, ◌≤◌}
 use Rattle.ring.specs.Sides.{weight_of, code}
 use Rattle.rules.proofs.weights.Weights.weight_of.Given as goal
 
