@@ -1,7 +1,7 @@
 -- What an accepted call passed, and what it keeps: the limits of the demands, the count of the nodes that are out, and the number of rows.
 use Rattle.std.proofs.Common.{◌≡◌, ℕ, zero, suc, ◌+◌, ◌<◌, ◌≤◌, Bool, true, false, not, ◌&&◌, ◌||◌, eqb, ltb, leb, List, [], ◌∷◌, ◌++◌, map, length, get_or, set, filter, sym, refl, ap, ◌∙◌, subst, arith}
 use lib.ListN.{length-map}
-use Rattle.std.specs.List.{remove, AllByRecursion as All}
+use Rattle.std.specs.List.{remove, AllByRecursion as Each}
 use Rattle.std.proofs.ByRecursion.{All-push, all_kept_by, All-get_or, Decides-by_and}
 use Rattle.std.proofs.lemmas.List.{length_push}
 use Rattle.std.proofs.lemmas.Bool.{and_parts, or_parts, not-false, not-true, both_ways, leb-true, leb-false, ltb-false, eqb-true, eqb-false, eq-eqb, ne_eqb, not_from_true, not_from_false, cond_both, cond-true, cond-false}
@@ -136,11 +136,11 @@ numbered_within n ds h =
     (and_parts (numbered_test ds) _ (and_parts (each (ends_test n) ds) _ ring.1).1).0
 
 -- what a test of each element says of each
-all_pass : {X : Type 0} (p : X → Bool) (xs : List X) → each p xs ≡ true → All (λ x. p x ≡ true) xs
+all_pass : {X : Type 0} (p : X → Bool) (xs : List X) → each p xs ≡ true → Each (λ x. p x ≡ true) xs
 all_pass p xs h = (Decides-by_and p (λ x. p x ≡ true) (each p) (λ x. (λ e. e, λ e. e)) refl (λ _ _. refl) xs).0 h
 
 -- a filter that each element passes leaves the list
-pub kept_all : {X : Type 0} (p : X → Bool) (xs : List X) → All (λ x. p x ≡ true) xs → filter p xs ≡ xs
+pub kept_all : {X : Type 0} (p : X → Bool) (xs : List X) → Each (λ x. p x ≡ true) xs → filter p xs ≡ xs
 kept_all p [] h = refl
 kept_all p (x ∷ xs) h = cond-true (p x) (x ∷ filter p xs) (filter p xs) h.0 ∙ ap (λ ys. x ∷ ys) (kept_all p xs h.1)
 
@@ -217,7 +217,7 @@ drawn_few n σ ds l =
     let n1 : 1 ≤ n = omega (arith, l.least) in
     let routes : List Route = routes_by σ n ds in
     let ss : List (List Route) = first_fit n routes in
-    let counts : All (λ (d : Route). length (slots_of 1 d ss) ≡ d.demand.units) routes =
+    let counts : Each (λ (d : Route). length (slots_of 1 d ss) ≡ d.demand.units) routes =
     rows_count n routes n1 (valid_routes σ n ds l.fitting) (distinct_routes σ n ds l.numbered) in
     omega (
       arith,

@@ -1,6 +1,6 @@
 -- The loads of a parallel choice against the cuts.
 use Rattle.std.proofs.Common.{◌≡◌, ℕ, ◌+◌, ◌-◌, ◌≤◌, Bool, true, false, cond, not, eqb, List, [], ◌∷◌, sym, refl, subst, arith}
-use Rattle.std.specs.List.{AllByRecursion as All}
+use Rattle.std.specs.List.{AllByRecursion as Each}
 use Rattle.std.proofs.lemmas.Bool.{true≢false}
 use Rattle.ring.specs.Sums.{most_of, least_of}
 use Rattle.ring.specs.Ring.{within, differ, cut, heaviest, Link, Fitting}
@@ -12,7 +12,7 @@ use Rattle.bounds.proofs.Spread.{most_le, least_le, cut_le_heaviest}
 use Rattle.bounds.proofs.Helly.{partner}
 
 -- of two links that no chosen route holds both, the loads are the cut
-pub pair_load : (σ : Choice) (n e f : ℕ) (ds : List Demand) → All (λ (d : Demand). chosen σ n d e ≡ true → chosen σ n d f ≡ false) ds →
+pub pair_load : (σ : Choice) (n e f : ℕ) (ds : List Demand) → Each (λ (d : Demand). chosen σ n d e ≡ true → chosen σ n d f ≡ false) ds →
     chosen_load σ n ds e + chosen_load σ n ds f ≡ cut ds e f
 pair_load σ n e f [] h = refl
 pair_load σ n e f (d ∷ ds) h =

@@ -2,7 +2,7 @@
 -- Cut the ring open at the link e. What a route over e misses is then a stretch first..last of the places 1..n-1,
 -- and two such stretches meet; so all of them have a place in common, the largest of the firsts.
 use Rattle.std.proofs.Common.{◌≡◌, ℕ, ◌+◌, ◌-◌, ◌≤◌, max, Bool, true, false, cond, eqb, ltb, leb, List, [], ◌∷◌, refl, arith}
-use Rattle.std.specs.List.{AllByRecursion as All}
+use Rattle.std.specs.List.{AllByRecursion as Each}
 use Rattle.std.proofs.ByRecursion.{All-weaker}
 use Rattle.std.proofs.lemmas.Bool.{false≢true}
 use Rattle.std.proofs.lemmas.Bool.Decides.{nat_tests}
@@ -82,7 +82,7 @@ module _ (σ : Choice) (par : Parallel σ) (n : ℕ) (n3 : 3 ≤ n) (n16 : n ≤
           omega (arith, first_small n e (code (σ n b.lower b.upper)) b.lower b.upper le q y, meet b b q q y y)
 
   -- whatever starts at most at m, and below the largest first too
-  from_far : (ds : List Demand) → All (λ (d : Demand). chosen σ n d e ≡ true → from σ n e d ≤ far σ n e ds) ds
+  from_far : (ds : List Demand) → Each (λ (d : Demand). chosen σ n d e ≡ true → from σ n e d ≤ far σ n e ds) ds
   from_far [] = tt
   from_far (d ∷ ds) = (
     (λ (x : chosen σ n d e ≡ true). go (chosen σ n d e) x),
@@ -98,8 +98,8 @@ module _ (σ : Choice) (par : Parallel σ) (n : ℕ) (n3 : 3 ≤ n) (n16 : n ≤
 
   -- the link at that place
   apart : (ds all : List Demand) → Fitting n all → Fitting n ds →
-      All (λ (d : Demand). chosen σ n d e ≡ true → from σ n e d ≤ far σ n e all) ds →
-      All (λ (d : Demand). chosen σ n d e ≡ true → chosen σ n d (link n e (far σ n e all)) ≡ false) ds
+      Each (λ (d : Demand). chosen σ n d e ≡ true → from σ n e d ≤ far σ n e all) ds →
+      Each (λ (d : Demand). chosen σ n d e ≡ true → chosen σ n d (link n e (far σ n e all)) ≡ false) ds
   apart [] all fits h k = tt
   apart (d ∷ ds) all fits h k = (
     (λ (x : chosen σ n d e ≡ true).
@@ -108,5 +108,5 @@ module _ (σ : Choice) (par : Parallel σ) (n : ℕ) (n3 : 3 ≤ n) (n16 : n ≤
   )
 
   pub partner : (ds : List Demand) → Fitting n ds →
-      (f : ℕ) × Link n f × All (λ (d : Demand). chosen σ n d e ≡ true → chosen σ n d f ≡ false) ds
+      (f : ℕ) × Link n f × Each (λ (d : Demand). chosen σ n d e ≡ true → chosen σ n d f ≡ false) ds
   partner ds fits = (link n e (far σ n e ds), link_in n e (far σ n e ds) le (far_range ds fits), apart ds ds fits fits (from_far ds))

@@ -1,6 +1,6 @@
 -- Every plan pays for every cut.
 use Rattle.std.proofs.Common.{◌≡◌, ℕ, ◌+◌, ◌≤◌, Bool, true, false, cond, not, ◌&&◌, ◌||◌, eqb, List, [], ◌∷◌, sym, refl, ap, ◌∙◌, arith}
-use Rattle.std.specs.List.{AllByRecursion as All}
+use Rattle.std.specs.List.{AllByRecursion as Each}
 use Rattle.std.proofs.ByRecursion.{All-weaker}
 use Rattle.std.proofs.lemmas.Bool.{eqb-true, eq-eqb, ne_eqb, false≢true, or_left, or_right}
 use Rattle.ring.specs.Sums.{sum_of, one, count_of}
@@ -25,7 +25,7 @@ pays s d e f = go (eqb s 0) (within d.lower d.upper e) (within d.lower d.upper f
     go false false false = omega arith
 
 -- no demand of ds has the row's number
-none : (e f : ℕ) (ds : List Demand) (k m : ℕ) → k ≡ m → All (λ (c : Demand). c.number ≡ k → ⊥) ds →
+none : (e f : ℕ) (ds : List Demand) (k m : ℕ) → k ≡ m → Each (λ (c : Demand). c.number ≡ k → ⊥) ds →
     sum_of (λ d. one (crosses d e f && eqb d.number m)) ds ≡ 0
 none e f [] k m same h = refl
 none e f (c ∷ ds) k m same h =
@@ -77,7 +77,7 @@ cut_below_loads n ds rows apart plan e f =
     omega (arith, by_rows, swapped, paid, parts)
 
 -- the rows of one slot over one link: one at most
-no_other : (n : ℕ) (ds : List Demand) (e k : ℕ) → Link n e → (r : Row) → r.slot ≡ k → row_over ds r e ≡ true → (rs : List Row) → All (λ (q : Row). Apart n ds r q) rs →
+no_other : (n : ℕ) (ds : List Demand) (e k : ℕ) → Link n e → (r : Row) → r.slot ≡ k → row_over ds r e ≡ true → (rs : List Row) → Each (λ (q : Row). Apart n ds r q) rs →
     count_of (λ (q : Row). eqb q.slot k && row_over ds q e) rs ≡ 0
 no_other n ds e k l r here o [] h = refl
 no_other n ds e k l r here o (q ∷ rs) h =
@@ -114,7 +114,7 @@ counted b k (x ∷ ks) h = go (eqb k x) h (counted b k ks)
     go false q ih = omega (arith, ih q)
 
 -- each slot is listed
-listed : (rows : List Row) → All (λ (r : Row). has r.slot (slots rows) ≡ true) rows
+listed : (rows : List Row) → Each (λ (r : Row). has r.slot (slots rows) ≡ true) rows
 listed [] = tt
 listed (r ∷ rs) = (here (has r.slot (slots rs)) refl, All-weaker _ _ (λ (q : Row) (h : has q.slot (slots rs) ≡ true). there (has r.slot (slots rs)) q.slot h) rs (listed rs))
   where

@@ -1,7 +1,7 @@
 -- What the demands alone say of every plan for them, and what a lawful choice of sides says of its loads. A rival is any plan for the same
 -- demands, routed and slotted anyhow.
 use Rattle.std.specs.Prelude.{◌≡◌, ℕ, ◌+◌, ◌*◌, ◌≤◌, true, false, List}
-use Rattle.std.specs.List.{AllByRecursion as All}
+use Rattle.std.specs.List.{AllByRecursion as Each}
 use Rattle.ring.specs.Sums.{most_of, least_of}
 use Rattle.ring.specs.Ring.{Plan, Numbered, Fitting, Link, cut, heaviest, load, slot_count}
 use Rattle.ring.specs.Sides.{Choice, Parallel, chosen, chosen_load, route_load, routes_by, shut}
@@ -39,7 +39,7 @@ PlansPayForTheHeaviest = (n : ℕ) (ds : List Demand) (rival : List Row) → Num
 abbrev pub LinksHavePartners : Type 0
 LinksHavePartners = (σ : Choice) → Parallel σ → (n : ℕ) → 3 ≤ n → n ≤ 16 → (ds : List Demand) → Fitting n ds →
     (e : ℕ) → Link n e →
-    (f : ℕ) × Link n f × All (λ (d : Demand). chosen σ n d e ≡ true → chosen σ n d f ≡ false) ds × (chosen_load σ n ds e + chosen_load σ n ds f ≡ cut ds e f)
+    (f : ℕ) × Link n f × Each (λ (d : Demand). chosen σ n d e ≡ true → chosen σ n d f ≡ false) ds × (chosen_load σ n ds e + chosen_load σ n ds f ≡ cut ds e f)
 
 -- the greatest load and the least are together at most the heaviest cut's total
 abbrev pub LawfulLoadsFitTheHeaviestCut : Type 0

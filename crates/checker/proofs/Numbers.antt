@@ -1,6 +1,6 @@
 -- The figures are those of the rows, and they fit, since a plan within the limits has at most 1,024 rows.
 use Rattle.std.proofs.Common.{◌≡◌, ℕ, suc, ◌+◌, ◌-◌, ◌<◌, ◌≤◌, Bool, true, false, cond, ◌||◌, eqb, leb, List, [], ◌∷◌, length, get_or, IfOk, Some, None, Option, Result, refl, ◌∙◌, ⊎_elim, arith}
-use Rattle.std.specs.List.{AllByRecursion as All}
+use Rattle.std.specs.List.{AllByRecursion as Each}
 use Rattle.std.proofs.lemmas.List.{get_or_past}
 use Rattle.std.proofs.lemmas.Bool.{le-leb, lt-leb, cases_lt, cond-true, cond-false, false≢true}
 use Rattle.ring.specs.Sums.{sum_of, one, count_of}
@@ -64,11 +64,11 @@ named_once (d ∷ ds) k h = go (eqb d.number k) h (named_once ds k)
     go true e ih = omega arith
     go false e ih = omega (arith, ih e)
 
-each_named : (ds : List Demand) (rows : List Row) → All (λ (r : Row). named ds r.demand ≡ true) rows → All (λ (r : Row). 1 ≤ sum_of (λ (d : Demand). one (eqb d.number r.demand)) ds) rows
+each_named : (ds : List Demand) (rows : List Row) → Each (λ (r : Row). named ds r.demand ≡ true) rows → Each (λ (r : Row). 1 ≤ sum_of (λ (d : Demand). one (eqb d.number r.demand)) ds) rows
 each_named ds [] a = tt
 each_named ds (r ∷ rs) a = (named_once ds r.demand a.0, each_named ds rs a.1)
 
-pub rows_few : (ds : List Demand) (rows : List Row) → All (λ (r : Row). named ds r.demand ≡ true) rows → All (λ (d : Demand). count_of (λ (r : Row). eqb d.number r.demand) rows ≡ d.units) ds → length rows ≤ units ds
+pub rows_few : (ds : List Demand) (rows : List Row) → Each (λ (r : Row). named ds r.demand ≡ true) rows → Each (λ (d : Demand). count_of (λ (r : Row). eqb d.number r.demand) rows ≡ d.units) ds → length rows ≤ units ds
 rows_few ds rows known full =
     omega (
       arith,

@@ -1,6 +1,6 @@
 -- The demand lines pass exactly where they are within the limits.
 use Rattle.std.proofs.Common.{◌≡◌, ℕ, ◌+◌, ◌<◌, ◌≤◌, false, not, ◌&&◌, ◌||◌, eqb, ltb, leb, List, [], ◌∷◌, ◌++◌, length, None, sym, refl, arith}
-use Rattle.std.specs.List.{AllByRecursion as All}
+use Rattle.std.specs.List.{AllByRecursion as Each}
 use Rattle.std.proofs.lemmas.List.{length_push}
 use Rattle.std.proofs.lemmas.Bool.{ne_eqb, eqb-false, or_parts, or_from, and_parts, and_from, not-false, not_from_true, leb-true, leb-false, ltb-false, le-leb, lt-leb, le-ltb}
 use Rattle.ring.specs.Ring.{units, Ends, Numbered, Fitting, named, WithinLimits}
@@ -15,14 +15,14 @@ pub record LineFine (n : ℕ) (before : List Demand) (d : Demand) : Type 0 where
   pub ends : Ends n d.lower d.upper
   pub some_units : (1 ≤ d.units) × (d.units ≤ 48)
   pub number : 1 ≤ d.number
-  pub fresh : All (λ (c : Demand). d.number ≡ c.number → ⊥) before
+  pub fresh : Each (λ (c : Demand). d.number ≡ c.number → ⊥) before
   pub all_units : units before + d.units ≤ 1024
 
-pub not_named : (ds : List Demand) (k : ℕ) → named ds k ≡ false → All (λ (c : Demand). k ≡ c.number → ⊥) ds
+pub not_named : (ds : List Demand) (k : ℕ) → named ds k ≡ false → Each (λ (c : Demand). k ≡ c.number → ⊥) ds
 not_named [] k h = tt
 not_named (d ∷ ds) k h = let p = or_parts (eqb d.number k) (named ds k) h in ((λ e. eqb-false d.number k p.0 (sym e)), not_named ds k p.1)
 
-pub named_not : (ds : List Demand) (k : ℕ) → All (λ (c : Demand). k ≡ c.number → ⊥) ds → named ds k ≡ false
+pub named_not : (ds : List Demand) (k : ℕ) → Each (λ (c : Demand). k ≡ c.number → ⊥) ds → named ds k ≡ false
 named_not [] k h = refl
 named_not (d ∷ ds) k h = or_from (eqb d.number k) (named ds k) (ne_eqb d.number k (λ e. h.0 (sym e))) (named_not ds k h.1)
 
@@ -100,7 +100,7 @@ lines_limits n lines least most h =
       least = least;
       most = most;
       fitting = walk_all (λ (d : Demand). Ends n d.lower d.upper) [] lines (walk_weaker (LineFine n) (λ _ (d : Demand). Ends n d.lower d.upper) (λ b d f. f.ends) [] lines w);
-      numbered = pairs_numbered lines (walk_pairs (λ (c d : Demand). d.number ≡ c.number → ⊥) [] lines (walk_weaker (LineFine n) (λ b (d : Demand). All (λ (c : Demand). d.number ≡ c.number → ⊥) b) (λ b d f. f.fresh) [] lines w)).1;
+      numbered = pairs_numbered lines (walk_pairs (λ (c d : Demand). d.number ≡ c.number → ⊥) [] lines (walk_weaker (LineFine n) (λ b (d : Demand). Each (λ (c : Demand). d.number ≡ c.number → ⊥) b) (λ b d f. f.fresh) [] lines w)).1;
       numbers = walk_all (λ (d : Demand). 1 ≤ d.number) [] lines (walk_weaker (LineFine n) (λ _ (d : Demand). 1 ≤ d.number) (λ b d f. f.number) [] lines w);
       sized = walk_all (λ (d : Demand). (1 ≤ d.units) × (d.units ≤ 48)) [] lines (walk_weaker (LineFine n) (λ _ (d : Demand). (1 ≤ d.units) × (d.units ≤ 48)) (λ b d f. f.some_units) [] lines w);
       few = omega (arith, few_from n [] lines (omega arith) w);
@@ -128,7 +128,7 @@ limits_lines n lines h =
     Own b d = Ends n d.lower d.upper × (1 ≤ d.number) × ((1 ≤ d.units) × (d.units ≤ 48))
 
     Fresh : List Demand → Demand → Type 0
-    Fresh b d = All (λ (c : Demand). d.number ≡ c.number → ⊥) b
+    Fresh b d = Each (λ (c : Demand). d.number ≡ c.number → ⊥) b
 
     Parts : List Demand → Demand → Type 0
     Parts b d = Limits b d × (Own b d × Fresh b d)
@@ -137,7 +137,7 @@ limits_lines n lines h =
     numbered_pairs [] p = tt
     numbered_pairs (d ∷ ds) p = (p.0, numbered_pairs ds p.1)
 
-    own : (before ds : List Demand) → Fitting n ds → All (λ (d : Demand). 1 ≤ d.number) ds → All (λ (d : Demand). (1 ≤ d.units) × (d.units ≤ 48)) ds → Walk Own before ds
+    own : (before ds : List Demand) → Fitting n ds → Each (λ (d : Demand). 1 ≤ d.number) ds → Each (λ (d : Demand). (1 ≤ d.units) × (d.units ≤ 48)) ds → Walk Own before ds
     own before [] f k u = tt
     own before (d ∷ ds) f k u = ((f.0, k.0, u.0), own (before ++ d ∷ []) ds f.1 k.1 u.1)
 

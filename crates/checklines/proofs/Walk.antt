@@ -1,6 +1,6 @@
 -- Going through a list, each element with those before it.
 use Rattle.std.proofs.Common.{◌≡◌, ℕ, suc, ◌+◌, ◌-◌, ◌<◌, ◌≤◌, Bool, true, false, cond, ltb, List, [], ◌∷◌, ◌++◌, length, get_or, take, drop, Some, None, Option, sym, refl, ap, ◌∙◌, arith}
-use Rattle.std.specs.List.{prefix_len, AllByRecursion as All}
+use Rattle.std.specs.List.{prefix_len, AllByRecursion as Each}
 use Rattle.std.proofs.lemmas.List.{take_more, drop_more, drop_all}
 use Rattle.std.proofs.ByRecursion.{All-push}
 use Rattle.std.proofs.lemmas.Bool.{cond-false, or_parts}
@@ -49,51 +49,51 @@ walk_both P Q before [] v w = tt
 walk_both P Q before (x ∷ xs) v w = ((v.0, w.0), walk_both P Q (before ++ x ∷ []) xs v.1 w.1)
 
 -- what does not look at those before
-pub walk_all : {X : Type 0} (P : X → Type 0) → (before xs : List X) → Walk (λ _ x. P x) before xs → All P xs
+pub walk_all : {X : Type 0} (P : X → Type 0) → (before xs : List X) → Walk (λ _ x. P x) before xs → Each P xs
 walk_all P before [] w = tt
 walk_all P before (x ∷ xs) w = (w.0, walk_all P (before ++ x ∷ []) xs w.1)
 
-pub all_walk : {X : Type 0} (P : X → Type 0) → (before xs : List X) → All P xs → Walk (λ _ x. P x) before xs
+pub all_walk : {X : Type 0} (P : X → Type 0) → (before xs : List X) → Each P xs → Walk (λ _ x. P x) before xs
 all_walk P before [] w = tt
 all_walk P before (x ∷ xs) w = (w.0, all_walk P (before ++ x ∷ []) xs w.1)
 
 -- ---- what holds of an element and each one before it holds of an element and each one after it
 abbrev pub Pairs : {X : Type 0} → (X → X → Type 0) → List X → Type 0
 Pairs R [] = Unit {0}
-Pairs R (x ∷ xs) = All (R x) xs × Pairs R xs
+Pairs R (x ∷ xs) = Each (R x) xs × Pairs R xs
 
-all_end : {X : Type 0} (P : X → Type 0) (xs : List X) (y : X) → All P (xs ++ y ∷ []) → All P xs × P y
+all_end : {X : Type 0} (P : X → Type 0) (xs : List X) (y : X) → Each P (xs ++ y ∷ []) → Each P xs × P y
 all_end P [] y a = (tt, a.0)
 all_end P (x ∷ xs) y a = let r = all_end P xs y a.1 in ((a.0, r.0), r.1)
 
-all_zip : {X : Type 0} (P Q : X → Type 0) (xs : List X) → All P xs → All Q xs → All (λ x. P x × Q x) xs
+all_zip : {X : Type 0} (P Q : X → Type 0) (xs : List X) → Each P xs → Each Q xs → Each (λ x. P x × Q x) xs
 all_zip P Q [] a b = tt
 all_zip P Q (x ∷ xs) a b = ((a.0, b.0), all_zip P Q xs a.1 b.1)
 
-all_left : {X : Type 0} (P Q : X → Type 0) (xs : List X) → All (λ x. P x × Q x) xs → All P xs
+all_left : {X : Type 0} (P Q : X → Type 0) (xs : List X) → Each (λ x. P x × Q x) xs → Each P xs
 all_left P Q [] a = tt
 all_left P Q (x ∷ xs) a = (a.0.0, all_left P Q xs a.1)
 
-all_right : {X : Type 0} (P Q : X → Type 0) (xs : List X) → All (λ x. P x × Q x) xs → All Q xs
+all_right : {X : Type 0} (P Q : X → Type 0) (xs : List X) → Each (λ x. P x × Q x) xs → Each Q xs
 all_right P Q [] a = tt
 all_right P Q (x ∷ xs) a = (a.0.1, all_right P Q xs a.1)
 
-all_none : {X : Type 0} (R : X → X → Type 0) (before : List X) → All (λ q. All (R q) []) before
+all_none : {X : Type 0} (R : X → X → Type 0) (before : List X) → Each (λ q. Each (R q) []) before
 all_none R [] = tt
 all_none R (x ∷ xs) = (tt, all_none R xs)
 
-pub walk_pairs : {X : Type 0} (R : X → X → Type 0) (before xs : List X) → Walk (λ b x. All (λ q. R q x) b) before xs → All (λ q. All (R q) xs) before × Pairs R xs
+pub walk_pairs : {X : Type 0} (R : X → X → Type 0) (before xs : List X) → Walk (λ b x. Each (λ q. R q x) b) before xs → Each (λ q. Each (R q) xs) before × Pairs R xs
 walk_pairs R before [] w = (all_none R before, tt)
 walk_pairs R before (x ∷ xs) w =
     let ih = walk_pairs R (before ++ x ∷ []) xs w.1 in
-    let e = all_end (λ q. All (R q) xs) before x ih.0 in
-    (all_zip (λ q. R q x) (λ q. All (R q) xs) before w.0 e.0, (e.1, ih.1))
+    let e = all_end (λ q. Each (R q) xs) before x ih.0 in
+    (all_zip (λ q. R q x) (λ q. Each (R q) xs) before w.0 e.0, (e.1, ih.1))
 
-pub pairs_walk : {X : Type 0} (R : X → X → Type 0) (before xs : List X) → All (λ q. All (R q) xs) before → Pairs R xs → Walk (λ b x. All (λ q. R q x) b) before xs
+pub pairs_walk : {X : Type 0} (R : X → X → Type 0) (before xs : List X) → Each (λ q. Each (R q) xs) before → Pairs R xs → Walk (λ b x. Each (λ q. R q x) b) before xs
 pairs_walk R before [] a p = tt
 pairs_walk R before (x ∷ xs) a p = (
-  all_left (λ q. R q x) (λ q. All (R q) xs) before a,
-  pairs_walk R (before ++ x ∷ []) xs (All-push (λ q. All (R q) xs) before x (all_right (λ q. R q x) (λ q. All (R q) xs) before a) p.0) p.1,
+  all_left (λ q. R q x) (λ q. Each (R q) xs) before a,
+  pairs_walk R (before ++ x ∷ []) xs (All-push (λ q. Each (R q) xs) before x (all_right (λ q. R q x) (λ q. Each (R q) xs) before a) p.0) p.1,
 )
 
 -- ---- one step of a loop
@@ -104,22 +104,22 @@ fault_step fault xs i d h =
     ∙ ap (λ b. or_else (fault (take i xs) (get_or xs i d)) (first_fault fault b (drop (i + 1) xs))) (sym (take_more xs i d h))
 
 -- ---- the longest front that passes
-pub leading_all : {X : Type 0} (p : X → Bool) (xs : List X) → ltb (prefix_len p xs) (length xs) ≡ false → All (λ x. p x ≡ true) xs
+pub leading_all : {X : Type 0} (p : X → Bool) (xs : List X) → ltb (prefix_len p xs) (length xs) ≡ false → Each (λ x. p x ≡ true) xs
 leading_all p [] h = tt
 leading_all p (x ∷ xs) h = go (p x) refl (leading_all p xs) h
   where
-    go : (b : Bool) → p x ≡ b → (ltb (prefix_len p xs) (length xs) ≡ false → All (λ x. p x ≡ true) xs) → ltb (cond b (1 + prefix_len p xs) 0) (suc (length xs)) ≡ false → (p x ≡ true) × All (λ x. p x ≡ true) xs
+    go : (b : Bool) → p x ≡ b → (ltb (prefix_len p xs) (length xs) ≡ false → Each (λ x. p x ≡ true) xs) → ltb (cond b (1 + prefix_len p xs) 0) (suc (length xs)) ≡ false → (p x ≡ true) × Each (λ x. p x ≡ true) xs
     go true e ih g = (e, ih (grind (arith, nat_tests)))
     go false e ih g = absurd (grind (arith, nat_tests))
 
-pub all_leading : {X : Type 0} (p : X → Bool) (xs : List X) → All (λ x. p x ≡ true) xs → ltb (prefix_len p xs) (length xs) ≡ false
+pub all_leading : {X : Type 0} (p : X → Bool) (xs : List X) → Each (λ x. p x ≡ true) xs → ltb (prefix_len p xs) (length xs) ≡ false
 all_leading p [] a = refl
 all_leading p (x ∷ xs) a = ap (λ b. ltb (cond b (1 + prefix_len p xs) 0) (suc (length xs))) a.0 ∙ go (all_leading p xs a.1)
   where
     go : ltb (prefix_len p xs) (length xs) ≡ false → ltb (1 + prefix_len p xs) (suc (length xs)) ≡ false
     go h = grind (arith, nat_tests)
 
-pub none_passes : {X : Type 0} (p : X → Bool) (xs : List X) → some p xs ≡ false → All (λ x. p x ≡ false) xs
+pub none_passes : {X : Type 0} (p : X → Bool) (xs : List X) → some p xs ≡ false → Each (λ x. p x ≡ false) xs
 none_passes p [] h = tt
 none_passes p (x ∷ xs) h = let e = or_parts (p x) (some p xs) h in (e.0, none_passes p xs e.1)
 

@@ -1,6 +1,6 @@
 -- The rows pass exactly where they are of known demands, on the sheet, on one side for each demand, and apart.
 use Rattle.std.proofs.Common.{◌≡◌, ℕ, zero, suc, ◌+◌, ◌<◌, ◌≤◌, Bool, true, false, cond, not, ◌&&◌, eqb, ltb, leb, ◌⊎◌, List, [], ◌∷◌, ◌++◌, length, None, sym, refl, ap, ◌∙◌, subst, inl, inr, ⊎_elim, arith}
-use Rattle.std.specs.List.{AllByRecursion as All, range_with_len}
+use Rattle.std.specs.List.{AllByRecursion as Each, range_with_len}
 use Rattle.std.proofs.lemmas.List.{append_assoc}
 use Rattle.std.proofs.ByRecursion.{All-weaker}
 use Rattle.std.proofs.lemmas.Bool.{eqb-true, eq-eqb, or_cases, or_left, or_right, and_parts, and_from, not-true, not-false, not_from_true, not_from_false, leb-true, le-leb, both_ways, cases_Bool, cases_eq, cond-true, false≢true}
@@ -56,7 +56,7 @@ pub record RowFine (n : ℕ) (ds : List Demand) (before : List Row) (r : Row) : 
   pub on_sheet : (1 ≤ r.slot) × (r.slot ≤ 1024)
   pub a_side : r.side ≤ 1
   pub alike : like_first r.demand r.side before ≡ true
-  pub apart : All (λ (q : Row). Apart n ds q r) before
+  pub apart : Each (λ (q : Row). Apart n ds q r) before
 
 -- nothing is wrong with a row by itself
 pub record FormFine (ds : List Demand) (before : List Row) (r : Row) : Type 0 where
@@ -116,7 +116,7 @@ first_side_lem k s (b ∷ before) q after h d e = go (eqb b.demand k) h (λ g. f
     go true g ih = eqb-true b.side s g
     go false g ih = ih g
 
-all_like : (k s : ℕ) (before : List Row) → All (λ (r : Row). r.demand ≡ k → r.side ≡ s) before → like_first k s before ≡ true
+all_like : (k s : ℕ) (before : List Row) → Each (λ (r : Row). r.demand ≡ k → r.side ≡ s) before → like_first k s before ≡ true
 all_like k s [] a = refl
 all_like k s (b ∷ before) a = go (eqb b.demand k) refl (all_like k s before a.1)
   where
@@ -124,7 +124,7 @@ all_like k s (b ∷ before) a = go (eqb b.demand k) refl (all_like k s before a.
     go true e ih = eq-eqb b.side s (a.0 (eqb-true b.demand k e))
     go false e ih = ih
 
-side_least : (k : ℕ) (rows : List Row) → All (λ (r : Row). r.side ≤ 1) rows → side_of k rows ≤ 1
+side_least : (k : ℕ) (rows : List Row) → Each (λ (r : Row). r.side ≤ 1) rows → side_of k rows ≤ 1
 side_least k [] a = omega arith
 side_least k (r ∷ rs) a = go (eqb r.demand k) (side_least k rs a.1)
   where
@@ -132,14 +132,14 @@ side_least k (r ∷ rs) a = go (eqb r.demand k) (side_least k rs a.1)
     go true ih = a.0
     go false ih = ih
 
-sides_from : (n : ℕ) (ds : List Demand) (k : ℕ) (before rows : List Row) → Walk (RowFine n ds) before rows → All (λ (r : Row). r.demand ≡ k → r.side ≡ side_of k (before ++ rows)) rows
+sides_from : (n : ℕ) (ds : List Demand) (k : ℕ) (before rows : List Row) → Walk (RowFine n ds) before rows → Each (λ (r : Row). r.demand ≡ k → r.side ≡ side_of k (before ++ rows)) rows
 sides_from n ds k before [] w = tt
 sides_from n ds k before (r ∷ rs) w = (
   (λ e. sym (first_side_lem k r.side before r rs (ap (λ d. like_first d r.side before) (sym e) ∙ w.0.alike) e refl)),
-  subst (λ (all : List Row). All (λ (r : Row). r.demand ≡ k → r.side ≡ side_of k all) rs) (append_assoc before (r ∷ []) rs) (sides_from n ds k (before ++ r ∷ []) rs w.1),
+  subst (λ (all : List Row). Each (λ (r : Row). r.demand ≡ k → r.side ≡ side_of k all) rs) (append_assoc before (r ∷ []) rs) (sides_from n ds k (before ++ r ∷ []) rs w.1),
 )
 
-all_of : {X : Type 0} (P : X → Type 0) → ((x : X) → P x) → (xs : List X) → All P xs
+all_of : {X : Type 0} (P : X → Type 0) → ((x : X) → P x) → (xs : List X) → Each P xs
 all_of P h [] = tt
 all_of P h (x ∷ xs) = (h x, all_of P h xs)
 
@@ -154,19 +154,19 @@ clear_pairs n ds (r ∷ rs) p = (p.0, clear_pairs n ds rs p.1)
 pub rows_walk : (n : ℕ) (ds : List Demand) (rows : List Row) → rows_fault n ds rows ≡ None → Walk (RowFine n ds) [] rows
 rows_walk n ds rows h = walk_weaker (λ b r. row_fault n ds b r ≡ None) (RowFine n ds) (row_fine n ds) [] rows (walk_none (row_fault n ds) [] rows h)
 
-pub rows_known : (n : ℕ) (ds : List Demand) (rows : List Row) → rows_fault n ds rows ≡ None → All (λ (r : Row). named ds r.demand ≡ true) rows
+pub rows_known : (n : ℕ) (ds : List Demand) (rows : List Row) → rows_fault n ds rows ≡ None → Each (λ (r : Row). named ds r.demand ≡ true) rows
 rows_known n ds rows h = walk_all (λ (r : Row). named ds r.demand ≡ true) [] rows (walk_weaker (RowFine n ds) (λ _ (r : Row). named ds r.demand ≡ true) (λ b r f. f.known) [] rows (rows_walk n ds rows h))
 
 pub rows_on_sheet : (n : ℕ) (ds : List Demand) (rows : List Row) → rows_fault n ds rows ≡ None → OnSheet rows
 rows_on_sheet n ds rows h = walk_all (λ (r : Row). (1 ≤ r.slot) × (r.slot ≤ 1024)) [] rows (walk_weaker (RowFine n ds) (λ _ (r : Row). (1 ≤ r.slot) × (r.slot ≤ 1024)) (λ b r f. f.on_sheet) [] rows (rows_walk n ds rows h))
 
 -- ---- all lines have their rows
-pub counts_full : (ds : List Demand) (rows : List Row) → counts_fault ds rows ≡ None → All (λ (d : Demand). count_of (λ (r : Row). eqb d.number r.demand) rows ≡ d.units) ds
+pub counts_full : (ds : List Demand) (rows : List Row) → counts_fault ds rows ≡ None → Each (λ (d : Demand). count_of (λ (r : Row). eqb d.number r.demand) rows ≡ d.units) ds
 counts_full ds rows h =
     All-weaker (λ (d : Demand). is_full rows d ≡ true) (λ (d : Demand). count_of (λ (r : Row). eqb d.number r.demand) rows ≡ d.units) (λ d e. eqb-true _ d.units e) ds
     (leading_all (is_full rows) ds (passed (ltb _ (length ds)) _ _ h).0)
 
-pub full_counts : (ds : List Demand) (rows : List Row) → All (λ (d : Demand). count_of (λ (r : Row). eqb d.number r.demand) rows ≡ d.units) ds → counts_fault ds rows ≡ None
+pub full_counts : (ds : List Demand) (rows : List Row) → Each (λ (d : Demand). count_of (λ (r : Row). eqb d.number r.demand) rows ≡ d.units) ds → counts_fault ds rows ≡ None
 full_counts ds rows h =
     pass (ltb _ (length ds)) _ _
     (all_leading (is_full rows) ds
@@ -176,31 +176,31 @@ full_counts ds rows h =
 pub passed_plan : (n : ℕ) (ds : List Demand) (rows : List Row) → rows_fault n ds rows ≡ None → counts_fault ds rows ≡ None → Plan n ds rows
 passed_plan n ds rows h g =
     let w = rows_walk n ds rows h in
-    let sides : All (λ (r : Row). r.side ≤ 1) rows = walk_all (λ (r : Row). r.side ≤ 1) [] rows (walk_weaker (RowFine n ds) (λ _ (r : Row). r.side ≤ 1) (λ b r f. f.a_side) [] rows w) in
+    let sides : Each (λ (r : Row). r.side ≤ 1) rows = walk_all (λ (r : Row). r.side ≤ 1) [] rows (walk_weaker (RowFine n ds) (λ _ (r : Row). r.side ≤ 1) (λ b r f. f.a_side) [] rows w) in
     record {
       known = rows_known n ds rows h;
       full = counts_full ds rows g;
-      sided = all_of (λ (d : Demand). (s : ℕ) × (s ≤ 1) × All (λ (r : Row). r.demand ≡ d.number → r.side ≡ s) rows)
+      sided = all_of (λ (d : Demand). (s : ℕ) × (s ≤ 1) × Each (λ (r : Row). r.demand ≡ d.number → r.side ≡ s) rows)
           (λ d. (side_of d.number rows, side_least d.number rows sides, sides_from n ds d.number [] rows w)) ds;
-      clear = pairs_clear n ds rows (walk_pairs (Apart n ds) [] rows (walk_weaker (RowFine n ds) (λ b (r : Row). All (λ (q : Row). Apart n ds q r) b) (λ b r f. f.apart) [] rows w)).1;
+      clear = pairs_clear n ds rows (walk_pairs (Apart n ds) [] rows (walk_weaker (RowFine n ds) (λ b (r : Row). Each (λ (q : Row). Apart n ds q r) b) (λ b r f. f.apart) [] rows w)).1;
     }
 
 -- the one side of a known number
-side_of_known : (ds : List Demand) (rows : List Row) → All (λ (d : Demand). (s : ℕ) × (s ≤ 1) × All (λ (r : Row). r.demand ≡ d.number → r.side ≡ s) rows) ds →
-    (k : ℕ) → named ds k ≡ true → (s : ℕ) × (s ≤ 1) × All (λ (r : Row). r.demand ≡ k → r.side ≡ s) rows
+side_of_known : (ds : List Demand) (rows : List Row) → Each (λ (d : Demand). (s : ℕ) × (s ≤ 1) × Each (λ (r : Row). r.demand ≡ d.number → r.side ≡ s) rows) ds →
+    (k : ℕ) → named ds k ≡ true → (s : ℕ) × (s ≤ 1) × Each (λ (r : Row). r.demand ≡ k → r.side ≡ s) rows
 side_of_known [] rows a k h = absurd (false≢true h)
 side_of_known (d ∷ ds) rows a k h = go (or_cases (eqb d.number k) (named ds k) h) (side_of_known ds rows a.1 k)
   where
-    go : (eqb d.number k ≡ true) ⊎ (named ds k ≡ true) → (named ds k ≡ true → (s : ℕ) × (s ≤ 1) × All (λ (r : Row). r.demand ≡ k → r.side ≡ s) rows) → (s : ℕ) × (s ≤ 1) × All (λ (r : Row). r.demand ≡ k → r.side ≡ s) rows
+    go : (eqb d.number k ≡ true) ⊎ (named ds k ≡ true) → (named ds k ≡ true → (s : ℕ) × (s ≤ 1) × Each (λ (r : Row). r.demand ≡ k → r.side ≡ s) rows) → (s : ℕ) × (s ≤ 1) × Each (λ (r : Row). r.demand ≡ k → r.side ≡ s) rows
     go (inl e) ih = (a.0.0, a.0.1, All-weaker (λ (r : Row). r.demand ≡ d.number → r.side ≡ a.0.0) (λ (r : Row). r.demand ≡ k → r.side ≡ a.0.0) (λ r f g. f (g ∙ sym (eqb-true d.number k e))) rows a.0.2)
     go (inr e) ih = ih e
 
-all_split : {X : Type 0} (P : X → Type 0) (xs ys : List X) → All P (xs ++ ys) → All P xs × All P ys
+all_split : {X : Type 0} (P : X → Type 0) (xs ys : List X) → Each P (xs ++ ys) → Each P xs × Each P ys
 all_split P [] ys a = (tt, a)
 all_split P (x ∷ xs) ys a = let r = all_split P xs ys a.1 in ((a.0, r.0), r.1)
 
-sides_walk : (ds : List Demand) (before rows : List Row) → ((k : ℕ) → named ds k ≡ true → (s : ℕ) × (s ≤ 1) × All (λ (r : Row). r.demand ≡ k → r.side ≡ s) (before ++ rows)) →
-    All (λ (r : Row). named ds r.demand ≡ true) rows → Walk (λ b (r : Row). (r.side ≤ 1) × (like_first r.demand r.side b ≡ true)) before rows
+sides_walk : (ds : List Demand) (before rows : List Row) → ((k : ℕ) → named ds k ≡ true → (s : ℕ) × (s ≤ 1) × Each (λ (r : Row). r.demand ≡ k → r.side ≡ s) (before ++ rows)) →
+    Each (λ (r : Row). named ds r.demand ≡ true) rows → Walk (λ b (r : Row). (r.side ≤ 1) × (like_first r.demand r.side b ≡ true)) before rows
 sides_walk ds before [] f a = tt
 sides_walk ds before (r ∷ rs) f a =
     let s = f r.demand a.0 in
@@ -208,7 +208,7 @@ sides_walk ds before (r ∷ rs) f a =
     let e : r.side ≡ s.0 = b.1.0 refl in (
       (omega (arith, s.1), ap (λ t. like_first r.demand t before) e ∙ all_like r.demand s.0 before b.0),
       sides_walk ds (before ++ r ∷ []) rs
-          (λ k h. subst (λ (all : List Row). (s : ℕ) × (s ≤ 1) × All (λ (r : Row). r.demand ≡ k → r.side ≡ s) all) (sym (append_assoc before (r ∷ []) rs)) (f k h)) a.1,
+          (λ k h. subst (λ (all : List Row). (s : ℕ) × (s ≤ 1) × Each (λ (r : Row). r.demand ≡ k → r.side ≡ s) all) (sym (append_assoc before (r ∷ []) rs)) (f k h)) a.1,
     )
 
 pub plan_rows : (n : ℕ) (ds : List Demand) (rows : List Row) → Plan n ds rows → OnSheet rows → rows_fault n ds rows ≡ None
@@ -227,11 +227,11 @@ plan_rows n ds rows p o =
     Sided b r = (r.side ≤ 1) × (like_first r.demand r.side b ≡ true)
 
     Clears : List Row → Row → Type 0
-    Clears b r = All (λ (q : Row). Apart n ds q r) b
+    Clears b r = Each (λ (q : Row). Apart n ds q r) b
 
     Parts : List Row → Row → Type 0
     Parts b r = Own b r × (Sided b r × Clears b r)
 
-    own : (before rs : List Row) → All (λ (r : Row). named ds r.demand ≡ true) rs → OnSheet rs → Walk Own before rs
+    own : (before rs : List Row) → Each (λ (r : Row). named ds r.demand ≡ true) rs → OnSheet rs → Walk Own before rs
     own before [] a b = tt
     own before (r ∷ rs) a b = ((a.0, b.0), own (before ++ r ∷ []) rs a.1 b.1)

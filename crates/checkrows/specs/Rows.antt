@@ -1,6 +1,6 @@
 -- What is wrong with the rows: the first cause in the order of the checks. Places count from 0, and a refusal names lines and rows from 1.
 use Rattle.std.specs.Prelude.{◌≡◌, ℕ, ◌+◌, ◌≤◌, Bool, true, cond, not, ◌&&◌, List, [], ◌∷◌, length, Some, None, Option, ◌==◌, nat_eq, nat_le, nat_lt, slice_index_or}
-use Rattle.std.specs.List.{range_with_len, prefix_len, AllByRecursion as All}
+use Rattle.std.specs.List.{range_with_len, prefix_len, AllByRecursion as Each}
 use Rattle.refusals.specs.declared.Refusal.{Refusal}
 use Rattle.refusals.specs.declared.Refusal.TheVariants.{DemandUnknown, SlotOutside, SideWrong, Collision, CountWrong}
 use Rattle.ring.specs.Sums.{count_of, some}
@@ -64,7 +64,7 @@ counts_fault lines rows = cond (nat_lt (prefix_len (is_full rows) lines) (length
 -- ---- the same in other words
 -- all slots are 1 to 1,024
 abbrev pub OnSheet : List Row → Type 0
-OnSheet rows = All (λ (r : Row). (1 ≤ r.slot) × (r.slot ≤ 1024)) rows
+OnSheet rows = Each (λ (r : Row). (1 ≤ r.slot) × (r.slot ≤ 1024)) rows
 
 -- the rows and their counts have no fault exactly where the rows are a plan on the sheet
 abbrev pub RowsDecided : Type 0

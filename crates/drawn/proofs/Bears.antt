@@ -1,6 +1,6 @@
 -- What the rows that are drawn keep to: their slots, and their number against cuts and rivals.
 use Rattle.std.proofs.Common.{◌≡◌, ℕ, zero, suc, ◌+◌, ◌≤◌, true, eqb, List, [], ◌∷◌, length, sym, refl, ap, ◌∙◌, subst, ⊎_elim, arith}
-use Rattle.std.specs.List.{AllByRecursion as All}
+use Rattle.std.specs.List.{AllByRecursion as Each}
 use Rattle.std.proofs.ByRecursion.{All-weaker}
 use Rattle.std.proofs.lemmas.Bool.{eqb-true, eq-eqb, or_cases, or_left, or_right, false≢true}
 use Rattle.ring.specs.Sums.{sum_of, some, most_of, least_of}
@@ -30,7 +30,7 @@ some_in_use k (r ∷ rs) h =
     ⊎_elim (λ e. or_left (eqb k r.slot) (in_use k rs) (eq-eqb k r.slot (sym (eqb-true r.slot k e))))
     (λ e. or_right (eqb k r.slot) (in_use k rs) (some_in_use k rs e)) (or_cases (eqb r.slot k) (some (λ (q : Row). eqb q.slot k) rs) h)
 
-in_use_low : (m k : ℕ) (rows : List Row) → All (λ (r : Row). Link m r.slot) rows → in_use k rows ≡ true → Link m k
+in_use_low : (m k : ℕ) (rows : List Row) → Each (λ (r : Row). Link m r.slot) rows → in_use k rows ≡ true → Link m k
 in_use_low m k [] low h = absurd (false≢true h)
 in_use_low m k (r ∷ rs) low h =
     ⊎_elim (λ e. subst (Link m) (sym (eqb-true k r.slot e)) low.0) (λ e. in_use_low m k rs low.1 e) (or_cases (eqb k r.slot) (in_use k rs) h)
@@ -55,7 +55,7 @@ slots_few n σ ds h fits =
 abbrev Rows : ℕ → Choice → List Demand → List Row
 Rows n σ ds = rows_in (first_fit n (routes_by σ n ds)) (routes_by σ n ds)
 
-slots_low : (n : ℕ) (σ : Choice) (ds : List Demand) → All (λ (r : Row). Link (length (first_fit n (routes_by σ n ds))) r.slot) (Rows n σ ds)
+slots_low : (n : ℕ) (σ : Choice) (ds : List Demand) → Each (λ (r : Row). Link (length (first_fit n (routes_by σ n ds))) r.slot) (Rows n σ ds)
 slots_low n σ ds = (no_gaps n (routes_by σ n ds)).0
 
 slots_all : (n : ℕ) (σ : Choice) (ds : List Demand) → (k : ℕ) → Link (length (first_fit n (routes_by σ n ds))) k → in_use k (Rows n σ ds) ≡ true

@@ -1,6 +1,6 @@
 -- The turns hold each demand's units once: a count over the turns is a sum over the routes.
 use Rattle.std.proofs.Common.{◌≡◌, ℕ, zero, suc, ◌+◌, ◌-◌, ◌<◌, ◌≤◌, Bool, true, false, cond, not, ◌&&◌, eqb, ltb, leb, List, [], ◌∷◌, ◌++◌, replicate, filter, refl, ◌∙◌, arith}
-use Rattle.std.specs.List.{range_with_len, flat_map, AllByRecursion as All}
+use Rattle.std.specs.List.{range_with_len, flat_map, AllByRecursion as Each}
 use Rattle.ring.specs.Sums.{sum_of, count_of}
 use Rattle.ring.proofs.Summing.{sum_cons, sum_append, count_cons, all_of, sum_eq, sum_add, sum_swap}
 use Rattle.std.proofs.ByRecursion.{All-weaker}
@@ -67,7 +67,7 @@ starts low high n CounterClockwise v = (omega arith, omega arith)
 pub start_in : (n : ℕ) (d : Route) → Valid n d → (1 ≤ start_node d) × (start_node d ≤ n)
 start_in n d v = starts d.demand.lower d.demand.upper n d.side v
 
-pub count_beside : (p : Route → Bool) (n c : ℕ) (routes : List Route) → c ≤ n → All (Valid n) routes →
+pub count_beside : (p : Route → Bool) (n c : ℕ) (routes : List Route) → c ≤ n → Each (Valid n) routes →
     count_of p (units_beside n routes c) ≡ sum_of (λ d. cond (not (holds d c)) (units_by p d) 0) routes
 count_beside p n c routes h valid =
     count_joined p (units_from routes c) (round n c)
@@ -81,7 +81,7 @@ split_cond : (b : Bool) (k : ℕ) → cond b k 0 + cond (not b) k 0 ≡ k
 split_cond true k = omega arith
 split_cond false k = omega arith
 
-pub count_turns : (p : Route → Bool) (n c : ℕ) (routes : List Route) → c ≤ n → All (Valid n) routes → count_of p (turns n routes c) ≡ sum_of (units_by p) routes
+pub count_turns : (p : Route → Bool) (n c : ℕ) (routes : List Route) → c ≤ n → Each (Valid n) routes → count_of p (turns n routes c) ≡ sum_of (units_by p) routes
 count_turns p n c routes h valid =
     omega (
       arith,

@@ -1,6 +1,6 @@
 -- What holds of any first fit.
 use Rattle.std.proofs.Common.{◌≡◌, ℕ, ◌+◌, ◌≤◌, max, Bool, true, false, cond, List, [], ◌∷◌, ◌++◌, map, length, fold, sym, refl, ap, ◌∙◌, subst, ⊎_elim, arith}
-use Rattle.std.specs.List.{prefix_len, AllByRecursion as All}
+use Rattle.std.specs.List.{prefix_len, AllByRecursion as Each}
 use Rattle.ring.specs.Sums.{sum_of, count_of, some}
 use Rattle.std.proofs.lemmas.List.{append_assoc, append-nil, map-append}
 use Rattle.std.proofs.ByRecursion.{All-push, All-map, All-weaker, All-append}
@@ -19,15 +19,15 @@ folded_append f [] ys b = refl
 folded_append f (x ∷ xs) ys b = folded_append f xs ys (f b x)
 
 -- ---- no two of a slot clash
-pub put_apart : {X : Type 0} (clash : X → X → Bool) (ss : List (List X)) (x : X) → All (Unclashing clash) ss → All (Unclashing clash) (put clash ss x)
+pub put_apart : {X : Type 0} (clash : X → X → Bool) (ss : List (List X)) (x : X) → Each (Unclashing clash) ss → Each (Unclashing clash) (put clash ss x)
 put_apart clash [] x h = ((refl, tt), tt)
 put_apart clash (s ∷ ss) x h =
-    cond_both (taken clash x s) (s ∷ put clash ss x) ((x ∷ s) ∷ ss) (All (Unclashing clash))
+    cond_both (taken clash x s) (s ∷ put clash ss x) ((x ∷ s) ∷ ss) (Each (Unclashing clash))
     (λ e. (h.0, put_apart clash ss x h.1))
     (λ e. ((e, h.0), h.1))
 
-pub fitted_apart : {X : Type 0} (clash : X → X → Bool) (xs : List X) → All (Unclashing clash) (fitted clash xs)
-fitted_apart clash xs = folded_keeps (put clash) (All (Unclashing clash)) (put_apart clash) xs [] tt
+pub fitted_apart : {X : Type 0} (clash : X → X → Bool) (xs : List X) → Each (Unclashing clash) (fitted clash xs)
+fitted_apart clash xs = folded_keeps (put clash) (Each (Unclashing clash)) (put_apart clash) xs [] tt
 
 -- ---- how many units, of those that pass p, stand in the slots
 abbrev pub total : {X : Type 0} → (X → Bool) → List (List X) → ℕ
@@ -83,9 +83,9 @@ length_fitted_le clash (x ∷ xs) ss = omega (arith, length_fitted_le clash xs (
 -- each of a list before each later one
 abbrev pub Led : {X : Type 0} → (X → X → Type 0) → List X → Type 0
 Led R [] = Unit {0}
-Led R (x ∷ xs) = All (R x) xs × Led R xs
+Led R (x ∷ xs) = Each (R x) xs × Led R xs
 
-pub count_implied : {X : Type 0} (p q : X → Bool) (xs : List X) → All (λ x. p x ≡ true → q x ≡ true) xs → count_of p xs ≤ count_of q xs
+pub count_implied : {X : Type 0} (p q : X → Bool) (xs : List X) → Each (λ x. p x ≡ true → q x ≡ true) xs → count_of p xs ≤ count_of q xs
 count_implied p q [] h = omega arith
 count_implied p q (x ∷ xs) h =
     ⊎_elim
@@ -93,7 +93,7 @@ count_implied p q (x ∷ xs) h =
     (λ e. omega (arith, count_cons p x xs, count_cons q x xs, cond-false {A = ℕ} (p x) 1 0 e, count_implied p q xs h.1))
     (cases_Bool (p x))
 
-pub all_both : {X : Type 0} (P Q R : X → Type 0) → ((x : X) → P x → Q x → R x) → (xs : List X) → All P xs → All Q xs → All R xs
+pub all_both : {X : Type 0} (P Q R : X → Type 0) → ((x : X) → P x → Q x → R x) → (xs : List X) → Each P xs → Each Q xs → Each R xs
 all_both P Q R f [] h k = tt
 all_both P Q R f (x ∷ xs) h k = (f x h.0 k.0, all_both P Q R f xs h.1 k.1)
 
@@ -103,7 +103,7 @@ module _ {X : Type 0} (clash touches : X → X → Bool) (first : List X) where
   abbrev pub Leads : X → X → Type 0
   Leads x y = clash y x ≡ true → touches y x ≡ true
 
-  pub slot_bound : (done left : List X) (x : X) → All (λ y. Leads y x) done → touches x x ≡ true →
+  pub slot_bound : (done left : List X) (x : X) → Each (λ y. Leads y x) done → touches x x ≡ true →
       lowest clash (fitted clash (first ++ done)) x ≤ length first + count_of (touches x) (done ++ x ∷ left)
   slot_bound done left x lead own =
       omega (
@@ -120,12 +120,12 @@ module _ {X : Type 0} (clash touches : X → X → Bool) (first : List X) where
   abbrev pub Bounded : List X → ℕ → X → Type 0
   Bounded whole B x = (touches x x ≡ true) × (length first + count_of (touches x) whole ≤ B)
 
-  pub line_bound : (whole : List X) (B : ℕ) (left done : List X) → done ++ left ≡ whole → All (λ y. All (λ x. Leads x y) done) left → Led Leads left →
-      All (Bounded whole B) left → length (fitted clash (first ++ done)) ≤ B → length (fitted clash (first ++ whole)) ≤ B
+  pub line_bound : (whole : List X) (B : ℕ) (left done : List X) → done ++ left ≡ whole → Each (λ y. Each (λ x. Leads x y) done) left → Led Leads left →
+      Each (Bounded whole B) left → length (fitted clash (first ++ done)) ≤ B → length (fitted clash (first ++ whole)) ≤ B
   line_bound whole B [] done e cross led bounds h = subst (λ w. length (fitted clash (first ++ w)) ≤ B) (sym (append-nil done) ∙ e) h
   line_bound whole B (x ∷ left) done e cross led bounds h =
       line_bound whole B left (done ++ x ∷ []) (append_assoc done (x ∷ []) left ∙ e)
-      (all_both (λ y. All (λ z. Leads z y) done) (Leads x) (λ y. All (λ z. Leads z y) (done ++ x ∷ []))
+      (all_both (λ y. Each (λ z. Leads z y) done) (Leads x) (λ y. Each (λ z. Leads z y) (done ++ x ∷ []))
       (λ y p q. All-push (λ z. Leads z y) done x p q) left cross.1 led.0)
       led.1 bounds.1
       (let slot : lowest clash (fitted clash (first ++ done)) x ≤ B =
@@ -134,18 +134,18 @@ module _ {X : Type 0} (clash touches : X → X → Bool) (first : List X) where
       ap (λ w. length (fitted clash w)) (sym (append_assoc first done (x ∷ []))) ∙ ap length (fold_push (put clash) [] (first ++ done) x) in
       omega (arith, ends, length_put clash (fitted clash (first ++ done)) x))
 
-  pub fitted_bound : (whole : List X) (B : ℕ) → Led Leads whole → All (Bounded whole B) whole → length first ≤ B → length (fitted clash (first ++ whole)) ≤ B
+  pub fitted_bound : (whole : List X) (B : ℕ) → Led Leads whole → Each (Bounded whole B) whole → length first ≤ B → length (fitted clash (first ++ whole)) ≤ B
   fitted_bound whole B led bounds h =
-      line_bound whole B whole [] refl (all_of (λ y. All (λ x. Leads x y) []) (λ y. tt) whole) led bounds
+      line_bound whole B whole [] refl (all_of (λ y. Each (λ x. Leads x y) []) (λ y. tt) whole) led bounds
       (omega (arith, length_fitted_le clash (first ++ []) [], ap length (append-nil first)))
 
 -- ---- where each slot is taken for x, x gets a new one
-pub put_new : {X : Type 0} (clash : X → X → Bool) (ss : List (List X)) (x : X) → All (λ s. taken clash x s ≡ true) ss → put clash ss x ≡ ss ++ (x ∷ []) ∷ []
+pub put_new : {X : Type 0} (clash : X → X → Bool) (ss : List (List X)) (x : X) → Each (λ s. taken clash x s ≡ true) ss → put clash ss x ≡ ss ++ (x ∷ []) ∷ []
 put_new clash [] x h = refl
 put_new clash (s ∷ ss) x h = cond-true (taken clash x s) (s ∷ put clash ss x) ((x ∷ s) ∷ ss) h.0 ∙ ap (λ t. s ∷ t) (put_new clash ss x h.1)
 
 -- units that all clash stand one to a slot
-pub one_to_a_slot : {X : Type 0} (clash : X → X → Bool) (P : X → Type 0) → ((x y : X) → P x → P y → clash x y ≡ true) → (left done : List X) → All P left → All P done →
+pub one_to_a_slot : {X : Type 0} (clash : X → X → Bool) (P : X → Type 0) → ((x y : X) → P x → P y → clash x y ≡ true) → (left done : List X) → Each P left → Each P done →
     fold (put clash) (map (λ x. x ∷ []) done) left ≡ map (λ x. x ∷ []) (done ++ left)
 one_to_a_slot clash P f [] done l d = ap (map (λ x. x ∷ [])) (sym (append-nil done))
 one_to_a_slot clash P f (x ∷ left) done l d =
@@ -160,20 +160,20 @@ abbrev pub Filled : {X : Type 0} → List X → Type 0
 Filled [] = ⊥
 Filled (x ∷ xs) = Unit {0}
 
-pub put_filled : {X : Type 0} (clash : X → X → Bool) (ss : List (List X)) (x : X) → All Filled ss → All Filled (put clash ss x)
+pub put_filled : {X : Type 0} (clash : X → X → Bool) (ss : List (List X)) (x : X) → Each Filled ss → Each Filled (put clash ss x)
 put_filled clash [] x h = (tt, tt)
 put_filled clash (s ∷ ss) x h =
-    cond_both (taken clash x s) (s ∷ put clash ss x) ((x ∷ s) ∷ ss) (All Filled) (λ e. (h.0, put_filled clash ss x h.1)) (λ e. (tt, h.1))
+    cond_both (taken clash x s) (s ∷ put clash ss x) ((x ∷ s) ∷ ss) (Each Filled) (λ e. (h.0, put_filled clash ss x h.1)) (λ e. (tt, h.1))
 
-pub fitted_filled : {X : Type 0} (clash : X → X → Bool) (xs : List X) → All Filled (fitted clash xs)
-fitted_filled clash xs = folded_keeps (put clash) (All Filled) (put_filled clash) xs [] tt
+pub fitted_filled : {X : Type 0} (clash : X → X → Bool) (xs : List X) → Each Filled (fitted clash xs)
+fitted_filled clash xs = folded_keeps (put clash) (Each Filled) (put_filled clash) xs [] tt
 
 -- ---- what holds of each unit holds of those in the slots
-pub put_all : {X : Type 0} (clash : X → X → Bool) (P : X → Type 0) (ss : List (List X)) (x : X) → P x → All (All P) ss → All (All P) (put clash ss x)
+pub put_all : {X : Type 0} (clash : X → X → Bool) (P : X → Type 0) (ss : List (List X)) (x : X) → P x → Each (Each P) ss → Each (Each P) (put clash ss x)
 put_all clash P [] x p h = ((p, tt), tt)
 put_all clash P (s ∷ ss) x p h =
-    cond_both (taken clash x s) (s ∷ put clash ss x) ((x ∷ s) ∷ ss) (All (All P)) (λ e. (h.0, put_all clash P ss x p h.1)) (λ e. ((p, h.0), h.1))
+    cond_both (taken clash x s) (s ∷ put clash ss x) ((x ∷ s) ∷ ss) (Each (Each P)) (λ e. (h.0, put_all clash P ss x p h.1)) (λ e. ((p, h.0), h.1))
 
-pub fitted_all : {X : Type 0} (clash : X → X → Bool) (P : X → Type 0) (xs : List X) (ss : List (List X)) → All P xs → All (All P) ss → All (All P) (fold (put clash) ss xs)
+pub fitted_all : {X : Type 0} (clash : X → X → Bool) (P : X → Type 0) (xs : List X) (ss : List (List X)) → Each P xs → Each (Each P) ss → Each (Each P) (fold (put clash) ss xs)
 fitted_all clash P [] ss h k = k
 fitted_all clash P (x ∷ xs) ss h k = fitted_all clash P xs (put clash ss x) h.1 (put_all clash P ss x h.0 k)

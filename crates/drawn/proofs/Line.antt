@@ -1,6 +1,6 @@
 -- Routes that do not hold the cut link c, as parts of a line that begins after c.
 use Rattle.std.proofs.Common.{◌≡◌, ℕ, zero, suc, ◌+◌, ◌-◌, ◌<◌, ◌≤◌, Bool, true, false, cond, ◌&&◌, ltb, ◌⊎◌, List, [], ◌∷◌, ◌++◌, replicate, inr, ⊎_elim, arith}
-use Rattle.std.specs.List.{range_with_len, flat_map, AllByRecursion as All}
+use Rattle.std.specs.List.{range_with_len, flat_map, AllByRecursion as Each}
 use Rattle.std.proofs.ByRecursion.{All-append, All-weaker}
 use Rattle.drawn.proofs.FirstFit.{Led}
 use Rattle.std.proofs.lemmas.Bool.{and_parts, or_cases, false≢true}
@@ -17,12 +17,12 @@ use Rattle.drawn.specs.Slotting.{begins_at, shares, start_node, round, Valid}
 abbrev pub after : ℕ → ℕ → ℕ → ℕ
 after n c e = cond (ltb c e) (e - c) (e + n - c)
 
-pub all_counting : (P : ℕ → Type 0) (a m : ℕ) → ((k : ℕ) → a ≤ k → k < a + m → P k) → All P (range_with_len a m)
+pub all_counting : (P : ℕ → Type 0) (a m : ℕ) → ((k : ℕ) → a ≤ k → k < a + m → P k) → Each P (range_with_len a m)
 all_counting P a zero f = tt
 all_counting P a (suc m) f = (f a (omega arith) (omega arith), all_counting P (a + 1) m (λ k l u. f k (omega arith) (omega arith)))
 
 -- one that passes, where each has the property Q
-pub some_one : {X : Type 0} (p : X → Bool) (Q : X → Type 0) (xs : List X) → some p xs ≡ true → All Q xs → (x : X) × (p x ≡ true) × Q x
+pub some_one : {X : Type 0} (p : X → Bool) (Q : X → Type 0) (xs : List X) → some p xs ≡ true → Each Q xs → (x : X) × (p x ≡ true) × Q x
 some_one p Q [] h q = absurd (false≢true h)
 some_one p Q (x ∷ xs) h q = ⊎_elim (λ e. (x, e, q.0)) (λ e. some_one p Q xs e q.1) (or_cases (p x) (some p xs) h)
 
@@ -81,31 +81,31 @@ pub holds_start : (n : ℕ) (d : Route) → Valid n d → holds d (start_node d)
 holds_start n d v = from_inside d.demand.lower d.demand.upper (start_node d) d.side (begins d.demand.lower d.demand.upper d.side v.1)
 
 -- ---- lists in a line
-pub led_append : {X : Type 0} (R : X → X → Type 0) (xs ys : List X) → Led R xs → Led R ys → All (λ x. All (R x) ys) xs → Led R (xs ++ ys)
+pub led_append : {X : Type 0} (R : X → X → Type 0) (xs ys : List X) → Led R xs → Led R ys → Each (λ x. Each (R x) ys) xs → Led R (xs ++ ys)
 led_append R [] ys l k h = k
 led_append R (x ∷ xs) ys l k h = (All-append (R x) xs ys l.0 h.0, led_append R xs ys l.1 k h.1)
 
-pub led_same : {X : Type 0} (R : X → X → Type 0) (Q : X → Type 0) → ((x y : X) → Q x → Q y → R x y) → (xs : List X) → All Q xs → Led R xs
+pub led_same : {X : Type 0} (R : X → X → Type 0) (Q : X → Type 0) → ((x y : X) → Q x → Q y → R x y) → (xs : List X) → Each Q xs → Led R xs
 led_same R Q f [] q = tt
 led_same R Q f (x ∷ xs) q = (All-weaker Q (R x) (λ y k. f x y q.0 k) xs q.1, led_same R Q f xs q.1)
 
-pub all_joined : {X Y : Type 0} (P : Y → Type 0) (g : X → List Y) (xs : List X) → All (λ x. All P (g x)) xs → All P (flat_map g xs)
+pub all_joined : {X Y : Type 0} (P : Y → Type 0) (g : X → List Y) (xs : List X) → Each (λ x. Each P (g x)) xs → Each P (flat_map g xs)
 all_joined P g [] h = tt
 all_joined P g (x ∷ xs) h = All-append P (g x) (flat_map g xs) h.0 (all_joined P g xs h.1)
 
-pub all_replicate : {X : Type 0} (P : X → Type 0) (n : ℕ) (x : X) → P x → All P (replicate n x)
+pub all_replicate : {X : Type 0} (P : X → Type 0) (n : ℕ) (x : X) → P x → Each P (replicate n x)
 all_replicate P zero x h = tt
 all_replicate P (suc n) x h = (h, all_replicate P n x h)
 
 pub led_joined : {X Y : Type 0} (S : X → X → Type 0) (R : Y → Y → Type 0) (Q : X → Y → Type 0) (g : X → List Y) →
-    ((x : X) → S x x) → ((u v : X) (x y : Y) → S u v → Q u x → Q v y → R x y) → ((v : X) → All (Q v) (g v)) → (vs : List X) → Led S vs → Led R (flat_map g vs)
+    ((x : X) → S x x) → ((u v : X) (x y : Y) → S u v → Q u x → Q v y → R x y) → ((v : X) → Each (Q v) (g v)) → (vs : List X) → Led S vs → Led R (flat_map g vs)
 led_joined S R Q g same f q [] l = tt
 led_joined S R Q g same f q (v ∷ vs) l =
     led_append R (g v) (flat_map g vs)
     (led_same R (Q v) (λ x y. f v v x y (same v)) (g v) (q v))
     (led_joined S R Q g same f q vs l.1)
-    (All-weaker (Q v) (λ x. All (R x) (flat_map g vs))
-    (λ x k. all_joined (R x) g vs (All-weaker (S v) (λ u. All (R x) (g u)) (λ u s. All-weaker (Q u) (R x) (λ y m. f v u x y s k m) (g u) (q u)) vs l.0))
+    (All-weaker (Q v) (λ x. Each (R x) (flat_map g vs))
+    (λ x k. all_joined (R x) g vs (All-weaker (S v) (λ u. Each (R x) (g u)) (λ u s. All-weaker (Q u) (R x) (λ y m. f v u x y s k m) (g u) (q u)) vs l.0))
     (g v) (q v))
 
 pub led_counting : (S : ℕ → ℕ → Type 0) (a m : ℕ) → ((u v : ℕ) → a ≤ u → u ≤ v → v < a + m → S u v) → Led S (range_with_len a m)
@@ -121,5 +121,5 @@ round_led n c h =
     led_append (λ u v. after n c u ≤ after n c v) (range_with_len (c + 1) (n - c)) (range_with_len 1 c)
     (led_counting (λ u v. after n c u ≤ after n c v) (c + 1) (n - c) (λ u v l k m. grind (arith, nat_tests)))
     (led_counting (λ u v. after n c u ≤ after n c v) 1 c (λ u v l k m. grind (arith, nat_tests)))
-    (all_counting (λ u. All (λ v. after n c u ≤ after n c v) (range_with_len 1 c)) (c + 1) (n - c)
+    (all_counting (λ u. Each (λ v. after n c u ≤ after n c v) (range_with_len 1 c)) (c + 1) (n - c)
     (λ u l m. all_counting (λ v. after n c u ≤ after n c v) 1 c (λ v k o. grind (arith, nat_tests))))

@@ -1,6 +1,6 @@
 -- The rows that are drawn are a plan.
 use Rattle.std.proofs.Common.{◌≡◌, ℕ, ◌<◌, ◌≤◌, Bool, true, false, cond, ◌&&◌, eqb, ◌≢◌, List, [], ◌∷◌, map, length, sym, refl, ap, ◌∙◌, subst, arith}
-use Rattle.std.specs.List.{AllByRecursion as All}
+use Rattle.std.specs.List.{AllByRecursion as Each}
 use Rattle.std.proofs.ByRecursion.{All-map, All-weaker}
 use Rattle.std.proofs.lemmas.Bool.{cond-true, cond-false, eq-eqb, ne_eqb, or_left, or_right, and_from, both_ways}
 use Rattle.std.proofs.lemmas.Bool.Decides.{nat_tests}
@@ -21,21 +21,21 @@ use Rattle.drawn.proofs.Bounds.{first_fit, some_has}
 use Rattle.drawn.proofs.Says.{Own, own_all, rise, pick, rows_count, rows_apart}
 
 -- ---- lists
-all_unmap : {X Y : Type 0} (P : Y → Type 0) (f : X → Y) (xs : List X) → All P (map f xs) → All (λ x. P (f x)) xs
+all_unmap : {X Y : Type 0} (P : Y → Type 0) (f : X → Y) (xs : List X) → Each P (map f xs) → Each (λ x. P (f x)) xs
 all_unmap P f [] h = tt
 all_unmap P f (x ∷ xs) h = (h.0, all_unmap P f xs h.1)
 
 -- what holds of each element for each number
-all_each : {X : Type 0} (P : ℕ → X → Type 0) (xs : List X) → ((k : ℕ) → All (P k) xs) → All (λ x. (k : ℕ) → P k x) xs
+all_each : {X : Type 0} (P : ℕ → X → Type 0) (xs : List X) → ((k : ℕ) → Each (P k) xs) → Each (λ x. (k : ℕ) → P k x) xs
 all_each P [] h = tt
 all_each P (x ∷ xs) h = (λ k. (h k).0, all_each P xs (λ k. (h k).1))
 
-all_swap : {X Y : Type 0} (P : X → Y → Type 0) (xs : List X) (ys : List Y) → All (λ y. All (λ x. P x y) xs) ys → All (λ x. All (P x) ys) xs
+all_swap : {X Y : Type 0} (P : X → Y → Type 0) (xs : List X) (ys : List Y) → Each (λ y. Each (λ x. P x y) xs) ys → Each (λ x. Each (P x) ys) xs
 all_swap P [] ys h = tt
 all_swap P (x ∷ xs) ys h = (All-weaker _ _ (λ y k. k.0) ys h, all_swap P xs ys (All-weaker _ _ (λ y k. k.1) ys h))
 
 -- each number of a list is in it
-members : (ks : List ℕ) → All (λ k. some (λ x. eqb x k) ks ≡ true) ks
+members : (ks : List ℕ) → Each (λ k. some (λ x. eqb x k) ks ≡ true) ks
 members [] = tt
 members (k ∷ ks) = (
   or_left (eqb k k) (some (λ x. eqb x k) ks) (eq-eqb k k refl),
@@ -43,7 +43,7 @@ members (k ∷ ks) = (
 )
 
 -- ---- the routes of demands
-pub valid_routes : (σ : Choice) (n : ℕ) (ds : List Demand) → Fitting n ds → All (Valid n) (routes_by σ n ds)
+pub valid_routes : (σ : Choice) (n : ℕ) (ds : List Demand) → Fitting n ds → Each (Valid n) (routes_by σ n ds)
 valid_routes σ n ds fits = All-map (Valid n) (route_by σ n) ds fits
 
 pub distinct_routes : (σ : Choice) (n : ℕ) (ds : List Demand) → Numbered ds → Distinct (routes_by σ n ds)
@@ -54,7 +54,7 @@ distinct_routes σ n (d ∷ ds) h = (
 )
 
 -- ---- each row is of a demand
-named_all : (ds : List Demand) → All (λ (d : Demand). named ds d.number ≡ true) ds
+named_all : (ds : List Demand) → Each (λ (d : Demand). named ds d.number ≡ true) ds
 named_all [] = tt
 named_all (d ∷ ds) = (
   or_left (eqb d.number d.number) (named ds d.number) (eq-eqb d.number d.number refl),
@@ -62,12 +62,12 @@ named_all (d ∷ ds) = (
 )
 
 -- what holds of the rows of each route
-rows_each : (P : Row → Type 0) (ss : List (List Route)) (routes : List Route) → All (λ (d : Route). (k : ℕ) → P (row_of d k)) routes → All P (rows_in ss routes)
+rows_each : (P : Row → Type 0) (ss : List (List Route)) (routes : List Route) → Each (λ (d : Route). (k : ℕ) → P (row_of d k)) routes → Each P (rows_in ss routes)
 rows_each P ss routes h =
     all_joined P (λ d. map (row_of d) (slots_of 1 d ss)) routes
     (All-weaker (λ (d : Route). (k : ℕ) → P (row_of d k)) _ (λ d f. All-map P (row_of d) (slots_of 1 d ss) (all_of _ f (slots_of 1 d ss))) routes h)
 
-rows_known : (σ : Choice) (n : ℕ) (ds : List Demand) (ss : List (List Route)) → All (λ (r : Row). named ds r.demand ≡ true) (rows_in ss (routes_by σ n ds))
+rows_known : (σ : Choice) (n : ℕ) (ds : List Demand) (ss : List (List Route)) → Each (λ (r : Row). named ds r.demand ≡ true) (rows_in ss (routes_by σ n ds))
 rows_known σ n ds ss =
     rows_each (λ (r : Row). named ds r.demand ≡ true) ss (routes_by σ n ds)
     (All-map (λ (d : Route). (k : ℕ) → named ds d.demand.number ≡ true) (route_by σ n) ds (All-weaker (λ (d : Demand). named ds d.number ≡ true) (λ (d : Demand). (k : ℕ) → named ds d.number ≡ true) (λ d h k. h) ds (named_all ds)))
@@ -91,8 +91,8 @@ count_rows k ss routes =
     count_joined (λ (r : Row). eqb k r.demand) (λ d. map (row_of d) (slots_of 1 d ss)) routes
     ∙ sum_eq _ _ routes (all_of _ (λ d. count_rows_of k d (slots_of 1 d ss)) routes)
 
-rows_full : (ss : List (List Route)) (routes : List Route) → Distinct routes → All (λ (d : Route). length (slots_of 1 d ss) ≡ d.demand.units) routes →
-    All (λ (d : Route). count_of (λ (r : Row). eqb d.demand.number r.demand) (rows_in ss routes) ≡ d.demand.units) routes
+rows_full : (ss : List (List Route)) (routes : List Route) → Distinct routes → Each (λ (d : Route). length (slots_of 1 d ss) ≡ d.demand.units) routes →
+    Each (λ (d : Route). count_of (λ (r : Row). eqb d.demand.number r.demand) (rows_in ss routes) ≡ d.demand.units) routes
 rows_full ss routes distinct counts =
     all_both (λ (d : Route). sum_of (λ (a : Route). cond (eqb a.demand.number d.demand.number) (length (slots_of 1 a ss)) 0) routes ≡ length (slots_of 1 d ss))
     (λ (d : Route). length (slots_of 1 d ss) ≡ d.demand.units) _
@@ -106,9 +106,9 @@ code_le Clockwise = omega arith
 code_le CounterClockwise = omega arith
 
 rows_sided : (ss : List (List Route)) (routes : List Route) → Distinct routes →
-    All (λ (d : Route). (s : ℕ) × (s ≤ 1) × All (λ (r : Row). r.demand ≡ d.demand.number → r.side ≡ s) (rows_in ss routes)) routes
+    Each (λ (d : Route). (s : ℕ) × (s ≤ 1) × Each (λ (r : Row). r.demand ≡ d.demand.number → r.side ≡ s) (rows_in ss routes)) routes
 rows_sided ss routes distinct =
-    All-weaker (λ a. All (Own a) routes) _
+    All-weaker (λ a. Each (Own a) routes) _
     (λ d own. (
       code d.side,
       code_le d.side,
@@ -119,7 +119,7 @@ rows_sided ss routes distinct =
 
 -- ---- no two rows hold one link in one slot
 -- a row's route is its demand's
-row_holds : (ds : List Demand) → Numbered ds → All (λ (d : Demand). (s k e : ℕ) → row_over ds (record { demand = d.number; side = s; slot = k }) e ≡ over s d.lower d.upper e) ds
+row_holds : (ds : List Demand) → Numbered ds → Each (λ (d : Demand). (s k e : ℕ) → row_over ds (record { demand = d.number; side = s; slot = k }) e ≡ over s d.lower d.upper e) ds
 row_holds [] h = tt
 row_holds (d ∷ ds) h = (
   (λ s k e. cond-true (eqb d.number d.number) _ _ (eq-eqb d.number d.number refl)),
@@ -128,7 +128,7 @@ row_holds (d ∷ ds) h = (
 )
 
 -- what each two routes of different numbers have, each has with each later one
-led_distinct : (Q : Route → Route → Type 0) (ds : List Route) → Distinct ds → All (λ a. All (λ b. a.demand.number ≢ b.demand.number → Q a b) ds) ds → Led Q ds
+led_distinct : (Q : Route → Route → Type 0) (ds : List Route) → Distinct ds → Each (λ a. Each (λ b. a.demand.number ≢ b.demand.number → Q a b) ds) ds → Led Q ds
 led_distinct Q [] h q = tt
 led_distinct Q (d ∷ ds) h q = (
   all_both (λ (b : Route). d.demand.number ≢ b.demand.number) (λ b. d.demand.number ≢ b.demand.number → Q d b) (Q d) (λ b ne f. f ne) ds h.0 q.0.1,
@@ -151,18 +151,18 @@ module _ (n : ℕ) (ds : List Demand) (ss : List (List Route)) where
 
   -- the rows of two demands
   abbrev BothApart : Route → Route → Type 0
-  BothApart a b = All (λ k. All (λ j. Apart n ds (row_of a k) (row_of b j)) (slots_of 1 b ss)) (slots_of 1 a ss)
+  BothApart a b = Each (λ k. Each (λ j. Apart n ds (row_of a k) (row_of b j)) (slots_of 1 b ss)) (slots_of 1 a ss)
 
-  rows_led : (routes : List Route) → All OwnApart routes → Led BothApart routes → Led (Apart n ds) (rows_in ss routes)
+  rows_led : (routes : List Route) → Each OwnApart routes → Led BothApart routes → Led (Apart n ds) (rows_in ss routes)
   rows_led [] own both = tt
   rows_led (a ∷ rest) own both =
       led_append (Apart n ds) (map (row_of a) (slots_of 1 a ss)) (rows_in ss rest) own.0 (rows_led rest own.1 both.1)
-      (All-map (λ r. All (Apart n ds r) (rows_in ss rest)) (row_of a) (slots_of 1 a ss)
-      (All-weaker (λ k. All (λ b. All (λ j. Apart n ds (row_of a k) (row_of b j)) (slots_of 1 b ss)) rest) _
+      (All-map (λ r. Each (Apart n ds r) (rows_in ss rest)) (row_of a) (slots_of 1 a ss)
+      (All-weaker (λ k. Each (λ b. Each (λ j. Apart n ds (row_of a k) (row_of b j)) (slots_of 1 b ss)) rest) _
       (λ k h. all_joined (Apart n ds (row_of a k)) (λ d. map (row_of d) (slots_of 1 d ss)) rest
-      (All-weaker (λ b. All (λ j. Apart n ds (row_of a k) (row_of b j)) (slots_of 1 b ss)) _ (λ b f. All-map (Apart n ds (row_of a k)) (row_of b) (slots_of 1 b ss) f) rest h))
+      (All-weaker (λ b. Each (λ j. Apart n ds (row_of a k) (row_of b j)) (slots_of 1 b ss)) _ (λ b f. All-map (Apart n ds (row_of a k)) (row_of b) (slots_of 1 b ss) f) rest h))
       (slots_of 1 a ss)
-      (all_swap (λ k b. All (λ j. Apart n ds (row_of a k) (row_of b j)) (slots_of 1 b ss)) (slots_of 1 a ss) rest both.0)))
+      (all_swap (λ k b. Each (λ j. Apart n ds (row_of a k) (row_of b j)) (slots_of 1 b ss)) (slots_of 1 a ss) rest both.0)))
 
   -- a row of the route holds what the route holds
   abbrev Held : Route → Type 0
@@ -183,7 +183,7 @@ module _ (n : ℕ) (ds : List Demand) (ss : List (List Route)) where
       (slots_of 1 a ss) (members (slots_of 1 a ss))
 
 -- a row of a chosen route holds what the route holds
-rows_held : (σ : Choice) (n : ℕ) (ds : List Demand) (ss : List (List Route)) → Numbered ds → All (Held n ds ss) (routes_by σ n ds)
+rows_held : (σ : Choice) (n : ℕ) (ds : List Demand) (ss : List (List Route)) → Numbered ds → Each (Held n ds ss) (routes_by σ n ds)
 rows_held σ n ds ss numbered =
     All-map (Held n ds ss) (route_by σ n) ds
     (All-weaker (λ (d : Demand). (s k e : ℕ) → row_over ds (record { demand = d.number; side = s; slot = k }) e ≡ over s d.lower d.upper e) (λ (d : Demand). Held n ds ss (route_by σ n d))
@@ -216,14 +216,14 @@ drawn_plan n σ ds n1 fits numbered =
     let routes : List Route = routes_by σ n ds in
     let ss : List (List Route) = first_fit n routes in
     let distinct = distinct_routes σ n ds numbered in
-    let held : All (Held n ds ss) routes = rows_held σ n ds ss numbered in
-    let free : All (λ a. All (λ b. a.demand.number ≢ b.demand.number → Free n ds ss a b) routes) routes =
-    All-weaker (λ a. (k : ℕ) → All (λ b. a.demand.number ≢ b.demand.number → some (λ x. eqb x k) (slots_of 1 a ss) ≡ true → some (λ x. eqb x k) (slots_of 1 b ss) ≡ true → shares n a b ≡ false) routes) _
+    let held : Each (Held n ds ss) routes = rows_held σ n ds ss numbered in
+    let free : Each (λ a. Each (λ b. a.demand.number ≢ b.demand.number → Free n ds ss a b) routes) routes =
+    All-weaker (λ a. (k : ℕ) → Each (λ b. a.demand.number ≢ b.demand.number → some (λ x. eqb x k) (slots_of 1 a ss) ≡ true → some (λ x. eqb x k) (slots_of 1 b ss) ≡ true → shares n a b ≡ false) routes) _
     (λ a h. All-weaker (λ b. (k : ℕ) → a.demand.number ≢ b.demand.number → some (λ x. eqb x k) (slots_of 1 a ss) ≡ true → some (λ x. eqb x k) (slots_of 1 b ss) ≡ true → shares n a b ≡ false) _
     (λ b f ne k. f k ne) routes (all_each _ routes h))
     routes (all_each _ routes (rows_apart n routes distinct)) in
-    let both : All (λ a. All (λ b. a.demand.number ≢ b.demand.number → BothApart n ds ss a b) routes) routes =
-    all_both (Held n ds ss) (λ a. All (λ b. a.demand.number ≢ b.demand.number → Free n ds ss a b) routes) _
+    let both : Each (λ a. Each (λ b. a.demand.number ≢ b.demand.number → BothApart n ds ss a b) routes) routes =
+    all_both (Held n ds ss) (λ a. Each (λ b. a.demand.number ≢ b.demand.number → Free n ds ss a b) routes) _
     (λ a ha f. all_both (Held n ds ss) (λ b. a.demand.number ≢ b.demand.number → Free n ds ss a b) _ (λ b hb g ne. both_apart n ds ss a b ha hb (g ne)) routes held f)
     routes held free in
     record {

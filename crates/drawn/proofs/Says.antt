@@ -1,7 +1,7 @@
 -- What the rows say.
 use Rattle.std.proofs.Common.{◌≡◌, ℕ, zero, suc, ◌+◌, ◌-◌, ◌<◌, ◌≤◌, Bool, true, false, cond, not, ◌&&◌, ◌||◌, eqb, ◌≢◌, List, [], ◌∷◌, ◌++◌, map, length, get_or, replicate, filter, sym, refl, ap, ◌∙◌, subst, ap₂, ⊎_elim, zero-add, arith}
 use mathlib.Core.Bool.{and_comm}
-use Rattle.std.specs.List.{range_with_len, flat_map, AllByRecursion as All}
+use Rattle.std.specs.List.{range_with_len, flat_map, AllByRecursion as Each}
 use Rattle.ring.specs.Sums.{sum_of, one, count_of, some}
 use Rattle.ring.proofs.Summing.{all_of}
 use Rattle.std.proofs.ByRecursion.{All-append, All-weaker, All-map, all_kept_by, All-get_or}
@@ -19,12 +19,12 @@ use Rattle.drawn.proofs.Bounds.{first_fit, cut_link_lem, some_has}
 use Rattle.ring.specs.declared.Row.{Row}
 
 -- ---- rising
-from_on : (d : Route) (ss : List (List Route)) (k : ℕ) → All (λ j. (k ≤ j) × (j < k + length ss)) (slots_of k d ss)
+from_on : (d : Route) (ss : List (List Route)) (k : ℕ) → Each (λ j. (k ≤ j) × (j < k + length ss)) (slots_of k d ss)
 from_on d [] k = tt
 from_on d (s ∷ ss) k =
-    let rest : All (λ j. (k ≤ j) × (j < k + length (s ∷ ss))) (slots_of (k + 1) d ss) =
+    let rest : Each (λ j. (k ≤ j) × (j < k + length (s ∷ ss))) (slots_of (k + 1) d ss) =
     All-weaker (λ j. (k + 1 ≤ j) × (j < k + 1 + length ss)) (λ j. (k ≤ j) × (j < k + length (s ∷ ss))) (λ j h. (omega arith, omega arith)) (slots_of (k + 1) d ss) (from_on d ss (k + 1)) in
-    cond_both (has_unit d s) (k ∷ slots_of (k + 1) d ss) (slots_of (k + 1) d ss) (All (λ j. (k ≤ j) × (j < k + length (s ∷ ss)))) (λ _. ((omega arith, omega arith), rest)) (λ _. rest)
+    cond_both (has_unit d s) (k ∷ slots_of (k + 1) d ss) (slots_of (k + 1) d ss) (Each (λ j. (k ≤ j) × (j < k + length (s ∷ ss)))) (λ _. ((omega arith, omega arith), rest)) (λ _. rest)
 
 pub rise : (d : Route) (ss : List (List Route)) (k : ℕ) → Rising (slots_of k d ss)
 rise d [] k = tt
@@ -73,39 +73,39 @@ row_listed ss j l u h (d ∷ ds) q =
     (λ e. some_append_right (λ (row : Row). eqb row.slot (1 + j)) (map (row_of d) (slots_of 1 d ss)) (flat_map (λ d. map (row_of d) (slots_of 1 d ss)) ds) (row_listed ss j l u h ds e))
     (or_cases (eqb u.demand.number d.demand.number) (some (λ d. eqb u.demand.number d.demand.number) ds) q)
 
-itself : (routes : List Route) → All (Listed routes) routes
+itself : (routes : List Route) → Each (Listed routes) routes
 itself [] = tt
 itself (d ∷ ds) = (
   or_left (eqb d.demand.number d.demand.number) (some (λ e. eqb d.demand.number e.demand.number) ds) (eq-eqb d.demand.number d.demand.number refl),
   All-weaker (Listed ds) (Listed (d ∷ ds)) (λ u h. or_right (eqb u.demand.number d.demand.number) (some (λ e. eqb u.demand.number e.demand.number) ds) h) ds (itself ds),
 )
 
-units_all : (P : Route → Type 0) (t : Route → Bool) (routes : List Route) → All P routes → All P (units_of (filter t routes))
+units_all : (P : Route → Type 0) (t : Route → Bool) (routes : List Route) → Each P routes → Each P (units_of (filter t routes))
 units_all P t routes h =
-    all_joined P (λ d. replicate d.demand.units d) (filter t routes) (All-weaker P (λ d. All P (replicate d.demand.units d)) (λ d p. all_replicate P d.demand.units d p) (filter t routes) (all_kept_by t P routes h))
+    all_joined P (λ d. replicate d.demand.units d) (filter t routes) (All-weaker P (λ d. Each P (replicate d.demand.units d)) (λ d p. all_replicate P d.demand.units d p) (filter t routes) (all_kept_by t P routes h))
 
-turns_all : (P : Route → Type 0) (n c : ℕ) (routes : List Route) → All P routes → All P (turns n routes c)
+turns_all : (P : Route → Type 0) (n c : ℕ) (routes : List Route) → Each P routes → Each P (turns n routes c)
 turns_all P n c routes h =
     All-append P (units_over routes c) (units_beside n routes c) (units_all P (λ d. holds d c) routes h)
-    (all_joined P (units_from routes c) (round n c) (all_of (λ v. All P (units_from routes c v)) (λ v. units_all P (λ d. not (holds d c) && eqb (start_node d) v) routes h) (round n c)))
+    (all_joined P (units_from routes c) (round n c) (all_of (λ v. Each P (units_from routes c v)) (λ v. units_all P (λ d. not (holds d c) && eqb (start_node d) v) routes h) (round n c)))
 
-slot_unit : (routes : List Route) (s : List Route) → Filled s → All (Listed routes) s → (u : Route) × Listed routes u × ((d : Route) → u.demand.number ≡ d.demand.number → has_unit d s ≡ true)
+slot_unit : (routes : List Route) (s : List Route) → Filled s → Each (Listed routes) s → (u : Route) × Listed routes u × ((d : Route) → u.demand.number ≡ d.demand.number → has_unit d s ≡ true)
 slot_unit routes [] f h = absurd f
 slot_unit routes (u ∷ s) f h = (u, h.0, λ d e. or_left (eqb u.demand.number d.demand.number) (has_unit d s) (eq-eqb u.demand.number d.demand.number e))
 
-pub no_gaps : (n : ℕ) (routes : List Route) → All (λ (row : Row). (1 ≤ row.slot) × (row.slot ≤ length (first_fit n routes))) (rows_in (first_fit n routes) routes)
+pub no_gaps : (n : ℕ) (routes : List Route) → Each (λ (row : Row). (1 ≤ row.slot) × (row.slot ≤ length (first_fit n routes))) (rows_in (first_fit n routes) routes)
     × ((k : ℕ) → 1 ≤ k → k ≤ length (first_fit n routes) → some (λ (row : Row). eqb row.slot k) (rows_in (first_fit n routes) routes) ≡ true)
 no_gaps n routes =
     let ss : List (List Route) = first_fit n routes in (
       all_joined (λ (row : Row). (1 ≤ row.slot) × (row.slot ≤ length ss)) (λ d. map (row_of d) (slots_of 1 d ss)) routes
-          (all_of (λ d. All (λ (row : Row). (1 ≤ row.slot) × (row.slot ≤ length ss)) (map (row_of d) (slots_of 1 d ss)))
+          (all_of (λ d. Each (λ (row : Row). (1 ≤ row.slot) × (row.slot ≤ length ss)) (map (row_of d) (slots_of 1 d ss)))
           (λ d. All-map (λ (row : Row). (1 ≤ row.slot) × (row.slot ≤ length ss)) (row_of d) (slots_of 1 d ss)
           (All-weaker (λ j. (1 ≤ j) × (j < 1 + length ss)) (λ j. (1 ≤ j) × (j ≤ length ss)) (λ j h. (h.0, omega arith)) (slots_of 1 d ss) (from_on d ss 1))) routes),
       λ k l u.
           let j : ℕ = k - 1 in
           let in' : j < length ss = omega arith in
           let one = slot_unit routes (get_or ss j []) (All-get_or Filled ss j [] in' (fitted_filled (shares n) (turns n routes (cut_link n routes))))
-          (All-get_or (All (Listed routes)) ss j [] in' (fitted_all (shares n) (Listed routes) (turns n routes (cut_link n routes)) [] (turns_all (Listed routes) n (cut_link n routes) routes (itself routes)) tt)) in
+          (All-get_or (Each (Listed routes)) ss j [] in' (fitted_all (shares n) (Listed routes) (turns n routes (cut_link n routes)) [] (turns_all (Listed routes) n (cut_link n routes) routes (itself routes)) tt)) in
           let e : 1 + j ≡ k = omega arith in
           subst (λ i. some (λ (row : Row). eqb row.slot i) (rows_in (first_fit n routes) routes) ≡ true) e (row_listed ss j in' one.0 one.2 routes one.1),
     )
@@ -129,7 +129,7 @@ slot_has d (s ∷ ss) k (suc j) h =
     (λ q. subst (λ r. some (λ x. eqb x (k + suc j)) r ≡ true) (cond-false (has_unit d s) (k ∷ slots_of (k + 1) d ss) (slots_of (k + 1) d ss) q) h)
     (cases_Bool (has_unit d s))))
 
-none_all : {X : Type 0} (p : X → Bool) (xs : List X) → some p xs ≡ false → All (λ x. p x ≡ false) xs
+none_all : {X : Type 0} (p : X → Bool) (xs : List X) → some p xs ≡ false → Each (λ x. p x ≡ false) xs
 none_all p [] h = tt
 none_all p (x ∷ xs) h = ((or_parts (p x) (some p xs) h).0, none_all p xs (or_parts (p x) (some p xs) h).1)
 
@@ -140,10 +140,10 @@ shares_sym n a b = some_same (λ e. holds a e && holds b e) (λ e. holds b e && 
 abbrev pub Own : Route → Route → Type 0
 Own a u = a.demand.number ≡ u.demand.number → a ≡ u
 
-apart_in_slot : (n : ℕ) (a b : Route) → a.demand.number ≢ b.demand.number → (s : List Route) → Unclashing (shares n) s → All (Own a) s → All (Own b) s → has_unit a s ≡ true → has_unit b s ≡ true → shares n a b ≡ false
+apart_in_slot : (n : ℕ) (a b : Route) → a.demand.number ≢ b.demand.number → (s : List Route) → Unclashing (shares n) s → Each (Own a) s → Each (Own b) s → has_unit a s ≡ true → has_unit b s ≡ true → shares n a b ≡ false
 apart_in_slot n a b ne [] ap' oa ob ha hb = absurd (false≢true ha)
 apart_in_slot n a b ne (u ∷ s) ap' oa ob ha hb =
-    let free : All (λ v. shares n u v ≡ false) s = none_all (shares n u) s ap'.0 in
+    let free : Each (λ v. shares n u v ≡ false) s = none_all (shares n u) s ap'.0 in
     ⊎_elim
     (λ p. let au : a ≡ u = oa.0 (sym (eqb-true u.demand.number a.demand.number p)) in
     ⊎_elim (λ q. absurd (ne (sym (eqb-true u.demand.number a.demand.number p) ∙ eqb-true u.demand.number b.demand.number q)))
@@ -158,23 +158,23 @@ apart_in_slot n a b ne (u ∷ s) ap' oa ob ha hb =
     (or_cases (eqb u.demand.number b.demand.number) (has_unit b s) hb))
     (or_cases (eqb u.demand.number a.demand.number) (has_unit a s) ha)
 
-pub own_all : (routes : List Route) → Distinct routes → All (λ a. All (Own a) routes) routes
+pub own_all : (routes : List Route) → Distinct routes → Each (λ a. Each (Own a) routes) routes
 own_all [] h = tt
 own_all (d ∷ ds) h = (
   (λ _. refl, All-weaker (λ e. d.demand.number ≢ e.demand.number) (Own d) (λ e ne q. absurd (ne q)) ds h.0),
-  all_both (λ a. d.demand.number ≢ a.demand.number) (λ a. All (Own a) ds) (λ a. All (Own a) (d ∷ ds)) (λ a ne o. (λ q. absurd (ne (sym q)), o)) ds h.0 (own_all ds h.1),
+  all_both (λ a. d.demand.number ≢ a.demand.number) (λ a. Each (Own a) ds) (λ a. Each (Own a) (d ∷ ds)) (λ a ne o. (λ q. absurd (ne (sym q)), o)) ds h.0 (own_all ds h.1),
 )
 
-slots_own : (n : ℕ) (routes : List Route) (a : Route) (j : ℕ) → j < length (first_fit n routes) → All (Own a) routes → All (Own a) (get_or (first_fit n routes) j [])
+slots_own : (n : ℕ) (routes : List Route) (a : Route) (j : ℕ) → j < length (first_fit n routes) → Each (Own a) routes → Each (Own a) (get_or (first_fit n routes) j [])
 slots_own n routes a j l o =
-    All-get_or (All (Own a)) (first_fit n routes) j [] l (fitted_all (shares n) (Own a) (turns n routes (cut_link n routes)) [] (turns_all (Own a) n (cut_link n routes) routes o) tt)
+    All-get_or (Each (Own a)) (first_fit n routes) j [] l (fitted_all (shares n) (Own a) (turns n routes (cut_link n routes)) [] (turns_all (Own a) n (cut_link n routes) routes o) tt)
 
 -- two demands with a slot in common share no link
-pub rows_apart : (n : ℕ) (routes : List Route) → Distinct routes → (k : ℕ) → All (λ a. All (λ b. a.demand.number ≢ b.demand.number →
+pub rows_apart : (n : ℕ) (routes : List Route) → Distinct routes → (k : ℕ) → Each (λ a. Each (λ b. a.demand.number ≢ b.demand.number →
     some (λ x. eqb x k) (slots_of 1 a (first_fit n routes)) ≡ true → some (λ x. eqb x k) (slots_of 1 b (first_fit n routes)) ≡ true → shares n a b ≡ false) routes) routes
 rows_apart n routes distinct k =
     let ss : List (List Route) = first_fit n routes in
-    All-weaker (λ a. All (Own a) routes) _ (λ a oa. All-weaker (λ b. All (Own b) routes) _ (λ b ob ne ha hb.
+    All-weaker (λ a. Each (Own a) routes) _ (λ a oa. All-weaker (λ b. Each (Own b) routes) _ (λ b ob ne ha hb.
     let one = some_one (λ x. eqb x k) (λ j. (1 ≤ j) × (j < 1 + length ss)) (slots_of 1 a ss) ha (from_on a ss 1) in
     let e : k ≡ 1 + (k - 1) = omega (arith, eqb-true one.0 k one.1, one.2.0) in
     let l : k - 1 < length ss = omega (arith, eqb-true one.0 k one.1, one.2.0, one.2.1) in
@@ -189,7 +189,7 @@ abbrev is_of : Route → Route → Bool
 is_of d u = eqb u.demand.number d.demand.number
 
 -- a slot has at most one unit of a demand, since its units share links
-one_in_slot : (n : ℕ) (d : Route) → shares n d d ≡ true → (s : List Route) → Unclashing (shares n) s → All (Own d) s → count_of (is_of d) s ≡ one (has_unit d s)
+one_in_slot : (n : ℕ) (d : Route) → shares n d d ≡ true → (s : List Route) → Unclashing (shares n) s → Each (Own d) s → count_of (is_of d) s ≡ one (has_unit d s)
 one_in_slot n d self [] h o = refl
 one_in_slot n d self (u ∷ s) h o = go (is_of d u) refl (has_unit d s) refl (one_in_slot n d self s h.1 o.1)
   where
@@ -205,7 +205,7 @@ one_in_slot n d self (u ∷ s) h o = go (is_of d u) refl (has_unit d s) refl (on
     go true p false q ih = omega (arith, ih, ap one p, ap one q, ap₂ (λ x y. one (x || y)) p q)
     go false p b q ih = omega (arith, ih, ap one p, ap (λ x. one (x || has_unit d s)) p)
 
-count_slots : (n : ℕ) (d : Route) → shares n d d ≡ true → (ss : List (List Route)) (k : ℕ) → All (Unclashing (shares n)) ss → All (All (Own d)) ss → length (slots_of k d ss) ≡ total (is_of d) ss
+count_slots : (n : ℕ) (d : Route) → shares n d d ≡ true → (ss : List (List Route)) (k : ℕ) → Each (Unclashing (shares n)) ss → Each (Each (Own d)) ss → length (slots_of k d ss) ≡ total (is_of d) ss
 count_slots n d self [] k h o = refl
 count_slots n d self (s ∷ ss) k h o = go (has_unit d s) refl (count_slots n d self ss (k + 1) h.1 o.1)
   where
@@ -218,11 +218,11 @@ shares_itself n d v =
     some_has (λ e. holds d e && holds d e) (start_node d) 1 n (start_in n d v).0 (omega (arith, (start_in n d v).1)) (and_from (holds d (start_node d)) (holds d (start_node d)) (holds_start n d v) (holds_start n d v))
 
 -- of routes whose numbers differ, one alone is of a demand
-pick_none : (g : Route → ℕ) (d : Route) (ds : List Route) → All (λ (a : Route). d.demand.number ≢ a.demand.number) ds → sum_of (λ (a : Route). cond (is_of d a) (g a) 0) ds ≡ 0
+pick_none : (g : Route → ℕ) (d : Route) (ds : List Route) → Each (λ (a : Route). d.demand.number ≢ a.demand.number) ds → sum_of (λ (a : Route). cond (is_of d a) (g a) 0) ds ≡ 0
 pick_none g d [] h = refl
 pick_none g d (a ∷ ds) h = omega (arith, cond-false (is_of d a) (g a) 0 (ne_eqb a.demand.number d.demand.number (λ q. h.0 (sym q))), pick_none g d ds h.1)
 
-pub pick : (g : Route → ℕ) (ds : List Route) → Distinct ds → All (λ (d : Route). sum_of (λ (a : Route). cond (is_of d a) (g a) 0) ds ≡ g d) ds
+pub pick : (g : Route → ℕ) (ds : List Route) → Distinct ds → Each (λ (d : Route). sum_of (λ (a : Route). cond (is_of d a) (g a) 0) ds ≡ g d) ds
 pick g [] h = tt
 pick g (d ∷ ds) h = (
   omega (arith, cond-true (is_of d d) (g d) 0 (eq-eqb d.demand.number d.demand.number refl), pick_none g d ds h.0),
@@ -232,13 +232,13 @@ pick g (d ∷ ds) h = (
     next : (a : Route) → d.demand.number ≢ a.demand.number → sum_of (λ (b : Route). cond (is_of a b) (g b) 0) ds ≡ g a → sum_of (λ (b : Route). cond (is_of a b) (g b) 0) (d ∷ ds) ≡ g a
     next a ne e = omega (arith, cond-false (is_of a d) (g d) 0 (ne_eqb d.demand.number a.demand.number ne))
 
-pub rows_count : (n : ℕ) (routes : List Route) → 1 ≤ n → All (Valid n) routes → Distinct routes → All (λ d. length (slots_of 1 d (first_fit n routes)) ≡ d.demand.units) routes
+pub rows_count : (n : ℕ) (routes : List Route) → 1 ≤ n → Each (Valid n) routes → Distinct routes → Each (λ d. length (slots_of 1 d (first_fit n routes)) ≡ d.demand.units) routes
 rows_count n routes h valid distinct =
     let c : ℕ = cut_link n routes in
     let line : List Route = turns n routes c in
-    all_both (λ d. Valid n d × All (Own d) routes) (λ d. sum_of (units_by (is_of d)) routes ≡ d.demand.units) _
+    all_both (λ d. Valid n d × Each (Own d) routes) (λ d. sum_of (units_by (is_of d)) routes ≡ d.demand.units) _
     (λ d p e.
     count_slots n d (shares_itself n d p.0) (first_fit n routes) 1 (fitted_apart (shares n) line) (fitted_all (shares n) (Own d) line [] (turns_all (Own d) n c routes p.1) tt)
     ∙ total_fold (shares n) (is_of d) line [] ∙ zero-add (count_of (is_of d) line)
     ∙ count_turns (is_of d) n c routes (cut_link_lem n routes h).1 valid ∙ e)
-    routes (all_both (Valid n) (λ a. All (Own a) routes) (λ d. Valid n d × All (Own d) routes) (λ d v o. (v, o)) routes valid (own_all routes distinct)) (pick (λ d. d.demand.units) routes distinct)
+    routes (all_both (Valid n) (λ a. Each (Own a) routes) (λ d. Valid n d × Each (Own d) routes) (λ d v o. (v, o)) routes valid (own_all routes distinct)) (pick (λ d. d.demand.units) routes distinct)

@@ -1,6 +1,6 @@
 -- The theorems of slotting. A rival is any plan for the same demands, routed and slotted anyhow.
 use Rattle.std.specs.Prelude.{◌≡◌, ℕ, ◌+◌, ◌*◌, ◌≤◌, true, List, ◌++◌, length}
-use Rattle.std.specs.List.{AllByRecursion as All}
+use Rattle.std.specs.List.{AllByRecursion as Each}
 use Rattle.ring.specs.Ring.{Plan, WithinLimits, Link, heaviest, load, slot_count, in_use}
 use Rattle.ring.specs.Sides.{Choice, Parallel, chosen_load, route_load, shut}
 use Rattle.ring.specs.declared.Demand.{Demand}
@@ -30,7 +30,7 @@ pub record WellDrawn (n : ℕ) (ds : List Demand) (rows : List Row) : Type 0 whe
   -- a plan
   pub plan : Plan n ds rows
   -- in slots from 1 to 1,024
-  pub inside : All (λ (r : Row). (1 ≤ r.slot) × (r.slot ≤ 1024)) rows
+  pub inside : Each (λ (r : Row). (1 ≤ r.slot) × (r.slot ≤ 1024)) rows
   pub few : slot_count rows ≤ 1024
   -- the slots in use are 1 to the slot count, without gaps
   pub gapless : (k : ℕ) → (in_use k rows ≡ true → Link (slot_count rows) k) × (Link (slot_count rows) k → in_use k rows ≡ true)

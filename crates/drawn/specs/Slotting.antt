@@ -6,7 +6,7 @@
 --      lowest slot in which no unit placed before shares a link with it;
 --   5. the rows stand in the book's order, and the units of one demand by rising slot.
 use Rattle.std.specs.Prelude.{ℕ, ◌+◌, ◌-◌, ◌<◌, Bool, cond, not, ◌&&◌, ◌≢◌, List, [], ◌∷◌, ◌++◌, map, replicate, filter, ◌==◌, nat_eq}
-use Rattle.std.specs.List.{range_with_len, flat_map, AllByRecursion as All}
+use Rattle.std.specs.List.{range_with_len, flat_map, AllByRecursion as Each}
 use Rattle.ring.specs.Sums.{some}
 use Rattle.ring.specs.Ring.{Ends, slot_count}
 use Rattle.ring.specs.Sides.{code, Choice, holds, route_load, routes_by, shut}
@@ -106,9 +106,9 @@ Valid n d = Ends n d.demand.lower d.demand.upper
 -- no two routes are of one demand
 abbrev pub Distinct : List Route → Type 0
 Distinct [] = Unit {0}
-Distinct (d ∷ ds) = All (λ (e : Route). d.demand.number ≢ e.demand.number) ds × Distinct ds
+Distinct (d ∷ ds) = Each (λ (e : Route). d.demand.number ≢ e.demand.number) ds × Distinct ds
 
 -- numbers that rise
 abbrev pub Rising : List ℕ → Type 0
 Rising [] = Unit {0}
-Rising (k ∷ ks) = All (λ j. k < j) ks × Rising ks
+Rising (k ∷ ks) = Each (λ j. k < j) ks × Rising ks

@@ -1,6 +1,6 @@
 -- A line of bytes is well formed, and its bytes read back.
 use Rattle.std.proofs.Common.{◌≡◌, ℕ, ◌+◌, ◌*◌, ◌/◌, ◌%◌, ◌<◌, Bool, true, false, cond, eqb, List, [], ◌∷◌, ◌++◌, map, length, get_or, take, Ok, sym, refl, ap, ◌∙◌, arith}
-use Rattle.std.specs.List.{prefix_len, flat_map, AllByRecursion as All}
+use Rattle.std.specs.List.{prefix_len, flat_map, AllByRecursion as Each}
 use Rattle.std.proofs.lemmas.Bool.Decides.{nat_tests}
 use Rattle.std.proofs.lemmas.List.{take_at, get_or_at}
 use Rattle.std.proofs.lemmas.Bool.{and_from, eq-eqb, lt-ltb, cond-true}
@@ -21,7 +21,7 @@ pub feed_is_none : is_digit 10 ≡ false
 feed_is_none = refl
 
 -- bytes read back from their digits
-pub bytes_back : (bs : List ℕ) → All (λ b. b < 256) bs → bytes_of (hex_of bs) ≡ bs
+pub bytes_back : (bs : List ℕ) → Each (λ b. b < 256) bs → bytes_of (hex_of bs) ≡ bs
 bytes_back [] h = refl
 bytes_back (b ∷ bs) (h, hs) =
     let e : 16 * value_of (digit_char (b / 16)) + value_of (digit_char (b % 16)) ≡ b = omega (arith, char_value (b / 16) (omega arith), char_value (b % 16) (omega arith)) in
@@ -38,13 +38,13 @@ pub length_hex_of : (bs : List ℕ) → length (hex_of bs) ≡ 2 * length bs
 length_hex_of [] = refl
 length_hex_of (b ∷ bs) = omega (arith, length_hex_of bs)
 
-pub digits_text : (bs rest : List ℕ) → All (λ b. b < 256) bs → digits (hex_of bs ++ 10 ∷ rest) ≡ 2 * length bs
+pub digits_text : (bs rest : List ℕ) → Each (λ b. b < 256) bs → digits (hex_of bs ++ 10 ∷ rest) ≡ 2 * length bs
 digits_text [] rest h = leading_no is_digit 10 rest feed_is_none
 digits_text (b ∷ bs) rest (h, hs) =
     omega (arith, leading_yes is_digit (digit_char (b / 16)) (digit_char (b % 16) ∷ (hex_of bs ++ 10 ∷ rest)) (char_is (b / 16) (omega arith)), leading_yes is_digit (digit_char (b % 16)) (hex_of bs ++ 10 ∷ rest) (char_is (b % 16) (omega arith)), digits_text bs rest hs)
 
 -- a line of bytes is well formed, and its bytes are those
-pub formed_text : (bs : List ℕ) → All (λ b. b < 256) bs → 0 < length bs → well_formed (line_text bs) ≡ true
+pub formed_text : (bs : List ℕ) → Each (λ b. b < 256) bs → 0 < length bs → well_formed (line_text bs) ≡ true
 formed_text bs h pos =
     let n : digits (line_text bs) ≡ 2 * length bs = digits_text bs [] h in
     let at : get_or (line_text bs) (digits (line_text bs)) 0 ≡ 10 = get_or_at (hex_of bs) 10 [] 0 (digits (line_text bs)) (length_hex_of bs ∙ sym n) in
@@ -52,7 +52,7 @@ formed_text bs h pos =
     let even : digits (line_text bs) % 2 ≡ 0 = omega arith in
     and_from _ _ (eq-eqb _ _ at) (and_from _ _ (lt-ltb _ _ some) (eq-eqb _ _ even))
 
-pub line_back : (number : ℕ) (bs : List ℕ) → All (λ b. b < 256) bs → 0 < length bs → line_bytes number (line_text bs) ≡ Ok bs
+pub line_back : (number : ℕ) (bs : List ℕ) → Each (λ b. b < 256) bs → 0 < length bs → line_bytes number (line_text bs) ≡ Ok bs
 line_back number bs h pos =
     let n : digits (line_text bs) ≡ 2 * length bs = digits_text bs [] h in
     let front : take (digits (line_text bs)) (line_text bs) ≡ hex_of bs = take_at (hex_of bs) (10 ∷ []) (digits (line_text bs)) (length_hex_of bs ∙ sym n) in
@@ -62,12 +62,12 @@ line_back number bs h pos =
 lines_feed : (c : ℕ) (cs : List ℕ) → eqb c 10 ≡ false → lines_of (c ∷ cs) ≡ ahead c (lines_of cs)
 lines_feed c cs h = ap (λ b. cond b ((c ∷ []) ∷ lines_of cs) (ahead c (lines_of cs))) h
 
-pub lines_text : (bs rest : List ℕ) → All (λ b. b < 256) bs → lines_of (line_text bs ++ rest) ≡ line_text bs ∷ lines_of rest
+pub lines_text : (bs rest : List ℕ) → Each (λ b. b < 256) bs → lines_of (line_text bs ++ rest) ≡ line_text bs ∷ lines_of rest
 lines_text [] rest h = refl
 lines_text (b ∷ bs) rest (h, hs) =
     lines_feed (digit_char (b / 16)) (digit_char (b % 16) ∷ (line_text bs ++ rest)) (char_no_feed (b / 16) (omega arith))
     ∙ ap (ahead (digit_char (b / 16))) (lines_feed (digit_char (b % 16)) (line_text bs ++ rest) (char_no_feed (b % 16) (omega arith)) ∙ ap (ahead (digit_char (b % 16))) (lines_text bs rest hs))
 
-pub lines_joined : (all : List (List ℕ)) → All (λ bs. All (λ b. b < 256) bs) all → lines_of (flat_map line_text all) ≡ map line_text all
+pub lines_joined : (all : List (List ℕ)) → Each (λ bs. Each (λ b. b < 256) bs) all → lines_of (flat_map line_text all) ≡ map line_text all
 lines_joined [] h = refl
 lines_joined (bs ∷ all) (h, hs) = lines_text bs (flat_map line_text all) h ∙ ap (λ ls. line_text bs ∷ ls) (lines_joined all hs)

@@ -3,7 +3,7 @@
 
 ghost use Rattle.std.specs.Prelude.{◌≡◌, ◌+◌, ◌-◌, ◌*◌, ◌/◌, ◌%◌, ◌^◌, ◌<◌, ◌≤◌, true, length, take, drop, MatchResult, slice_set};
 ghost use Rattle.lines.specs.Hex.{digit_char, is_digit, value_of, bytes_of};
-ghost use Rattle.lines.specs.Lines.{digits as digitCount, ends_line, formed_at, line_text, DigitsOf, Unformed, line_length, line_at};
+ghost use Rattle.lines.specs.Lines.{digits as digit_count, ends_line, formed_at, line_text, DigitsOf, Unformed, line_length, line_at};
 ghost use Rattle.lines.specs.Writes.{overwrite};
 
 /// What is wrong with a line: its number and the character, both counted from 1, that breaks its form.
@@ -75,7 +75,7 @@ fn low_digit(byte: u8) -> u8
 /// How many digits a text begins with.
 fn count_digits(text: &[u8]) -> usize
     ensures within { result ≤ length text.now }
-    ensures value { result ≡ digitCount text.now }
+    ensures value { result ≡ digit_count text.now }
 {
     for (i, c) in text.iter().enumerate() {
         if !is_digit(*c) {

@@ -1,6 +1,6 @@
 -- The slots that are written for a demand are those that hold a unit of it.
 use Rattle.std.proofs.Common.{◌≡◌, ℕ, zero, suc, ◌+◌, ◌≤◌, Bool, true, false, cond, ◌||◌, eqb, ◌≢◌, ◌⊎◌, List, [], ◌∷◌, ◌++◌, map, length, take, drop, replicate, fold, filter, sym, refl, ap, ◌∙◌, subst, ap₂, inl, inr, ⊎_elim, arith}
-use Rattle.std.specs.List.{prefix_len, flat_map, AllByRecursion as All}
+use Rattle.std.specs.List.{prefix_len, flat_map, AllByRecursion as Each}
 use Rattle.ring.specs.Sums.{sum_of}
 use Rattle.std.proofs.lemmas.List.{append_assoc, append-nil, length-replicate, length-take-le, take_at, drop_at, take-append-drop, nil_from_length, length-drop}
 use Rattle.ring.proofs.Summing.{sum_cons}
@@ -31,7 +31,7 @@ module _ (clash : Route → Route → Bool) where
 
   -- no slot holds a unit of d
   abbrev pub Clear : Route → List (List Route) → Type 0
-  Clear d ss = All (λ s. has_unit d s ≡ false) ss
+  Clear d ss = Each (λ s. has_unit d s ≡ false) ss
 
   pub clear_none : (d : Route) (ss : List (List Route)) (k : ℕ) → Clear d ss → slots_of k d ss ≡ []
   clear_none d [] k h = refl
@@ -158,7 +158,7 @@ module _ (n : ℕ) (t : Route → Bool) where
   slots_of_next_other x d h ss =
       ⊎_elim (λ e. ap (slots_of 1 d) (next_yes ss x e) ∙ slots_of_puts_other (shares n) x d h x.demand.units ss) (λ e. ap (slots_of 1 d) (next_no ss x e)) (cases_Bool (t x))
 
-  pub slots_of_turn_other : (d : Route) (ds : List Route) → All (λ e. d.demand.number ≢ e.demand.number) ds → (ss : List (List Route)) → slots_of 1 d (fold (slots_next n t) ss ds) ≡ slots_of 1 d ss
+  pub slots_of_turn_other : (d : Route) (ds : List Route) → Each (λ e. d.demand.number ≢ e.demand.number) ds → (ss : List (List Route)) → slots_of 1 d (fold (slots_next n t) ss ds) ≡ slots_of 1 d ss
   slots_of_turn_other d [] h ss = refl
   slots_of_turn_other d (x ∷ ds) h ss = slots_of_turn_other d ds h.1 (slots_next n t ss x) ∙ slots_of_next_other x d (λ e. h.0 (sym e)) ss
 
@@ -167,14 +167,14 @@ abbrev pub Agree : (Route → Bool) → List (List Route) → List ℕ → List 
 Agree g ss out [] = Unit {0}
 Agree g ss out (d ∷ ds) = ((g d ≡ true → take d.demand.units out ≡ slots_of 1 d ss) × (g d ≡ false → slots_of 1 d ss ≡ [])) × Agree g ss (drop d.demand.units out) ds
 
-pub agree_other : (n : ℕ) (t g : Route → Bool) (x : Route) (ds : List Route) (ss : List (List Route)) (out : List ℕ) → All (λ e. x.demand.number ≢ e.demand.number) ds → Agree g ss out ds → Agree g (slots_next n t ss x) out ds
+pub agree_other : (n : ℕ) (t g : Route → Bool) (x : Route) (ds : List Route) (ss : List (List Route)) (out : List ℕ) → Each (λ e. x.demand.number ≢ e.demand.number) ds → Agree g ss out ds → Agree g (slots_next n t ss x) out ds
 agree_other n t g x [] ss out h a = tt
 agree_other n t g x (d ∷ ds) ss out h a =
     ((λ e. a.0.0 e ∙ sym (slots_of_next_other n t x d h.0 ss), λ e. slots_of_next_other n t x d h.0 ss ∙ a.0.1 e), agree_other n t g x ds ss (drop d.demand.units out) h.1 a.1)
 
 pub turn_agree : (n : ℕ) (t g : Route → Bool) (routes : List Route) (marks : List ℕ) (ss : List (List Route)) (out : List ℕ) → Tied n marks ss →
-    used marks + sum_of (λ d. cond (t d) d.demand.units 0) routes ≤ length marks → sum_of (λ d. d.demand.units) routes ≡ length out → Distinct routes → All (Valid n) routes →
-    All (λ d. t d ≡ true → g d ≡ false) routes → Agree g ss out routes → Agree (λ d. g d || t d) (fold (slots_next n t) ss routes) (filled n t marks out routes) routes
+    used marks + sum_of (λ d. cond (t d) d.demand.units 0) routes ≤ length marks → sum_of (λ d. d.demand.units) routes ≡ length out → Distinct routes → Each (Valid n) routes →
+    Each (λ d. t d ≡ true → g d ≡ false) routes → Agree g ss out routes → Agree (λ d. g d || t d) (fold (slots_next n t) ss routes) (filled n t marks out routes) routes
 turn_agree n t g [] marks ss out h room long dis val new a = tt
 turn_agree n t g (d ∷ ds) marks ss out h room long dis val new a =
     let own : List ℕ = take d.demand.units out in
@@ -203,7 +203,7 @@ turn_agree n t g (d ∷ ds) marks ss out h room long dis val new a =
     )
 
 -- at the end the slots are the rows'
-pub agree_all : (g : Route → Bool) (routes : List Route) (ss : List (List Route)) (out : List ℕ) → sum_of (λ d. d.demand.units) routes ≡ length out → All (λ d. g d ≡ true) routes → Agree g ss out routes →
+pub agree_all : (g : Route → Bool) (routes : List Route) (ss : List (List Route)) (out : List ℕ) → sum_of (λ d. d.demand.units) routes ≡ length out → Each (λ d. g d ≡ true) routes → Agree g ss out routes →
     out ≡ flat_map (λ d. slots_of 1 d ss) routes
 agree_all g [] ss out long all a = nil_from_length out (sym long)
 agree_all g (d ∷ ds) ss out long all a =

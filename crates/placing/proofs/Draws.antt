@@ -1,7 +1,7 @@
 -- Turn after turn.
 use Rattle.std.proofs.Common.{◌≡◌, ℕ, zero, suc, ◌+◌, ◌-◌, ◌<◌, ◌≤◌, Bool, true, false, cond, not, ◌||◌, eqb, ◌≢◌, List, [], ◌∷◌, ◌++◌, map, length, take, drop, fold, filter, sym, refl, ap, ◌∙◌, subst, ap₂, ⊎_elim, arith}
 use mathlib.Core.Bool.{or_assoc, or-false}
-use Rattle.std.specs.List.{range_with_len, flat_map, AllByRecursion as All}
+use Rattle.std.specs.List.{range_with_len, flat_map, AllByRecursion as Each}
 use Rattle.ring.specs.Ring.{Link}
 use Rattle.ring.specs.Sums.{sum_of, count_of, some}
 use Rattle.std.proofs.lemmas.List.{map-append, length-append, length-take-le, length-drop}
@@ -76,8 +76,8 @@ agree_same : (g k : Route → Bool) → ((d : Route) → g d ≡ k d) → (ds : 
 agree_same g k e [] ss out a = tt
 agree_same g k e (d ∷ ds) ss out a = ((λ q. a.0.0 (e d ∙ q), λ q. a.0.1 (e d ∙ q)), agree_same g k e ds ss (drop d.demand.units out) a.1)
 
-pub turns_agree : (n c : ℕ) (routes : List Route) → Distinct routes → All (Valid n) routes → (rs : List Turn) (g : Route → Bool) (marks : List ℕ) (ss : List (List Route)) (out : List ℕ) →
-    Led (ApartTurns c) rs → All (λ q. (d : Route) → comes c q d ≡ true → g d ≡ false) rs → Tied n marks ss → used marks + turns_size c routes rs ≤ length marks →
+pub turns_agree : (n c : ℕ) (routes : List Route) → Distinct routes → Each (Valid n) routes → (rs : List Turn) (g : Route → Bool) (marks : List ℕ) (ss : List (List Route)) (out : List ℕ) →
+    Led (ApartTurns c) rs → Each (λ q. (d : Route) → comes c q d ≡ true → g d ≡ false) rs → Tied n marks ss → used marks + turns_size c routes rs ≤ length marks →
     sum_of (λ d. d.demand.units) routes ≡ length out → Agree g ss out routes →
     Agree (λ d. g d || some (λ r. comes c r d) rs) (ring_turns n c routes ss rs) (slots_turns n c routes marks out rs) routes
 turns_agree n c routes dis val [] g marks ss out led new h room long a = agree_same g (λ d. g d || false) (λ d. sym (or-false (g d))) routes ss out a
@@ -122,7 +122,7 @@ led_map R f (x ∷ xs) h = (All-map (R (f x)) f xs h.0, led_map R f xs h.1)
 round_apart : (n c : ℕ) → Led (λ u v. u ≢ v) (round n c)
 round_apart n c =
     led_append (λ u v. u ≢ v) (range_with_len (c + 1) (n - c)) (range_with_len 1 c) (strict (c + 1) (n - c)) (strict 1 c)
-    (all_counting (λ u. All (λ v. u ≢ v) (range_with_len 1 c)) (c + 1) (n - c) (λ u l m. all_counting (λ v. u ≢ v) 1 c (λ v k o. omega arith)))
+    (all_counting (λ u. Each (λ v. u ≢ v) (range_with_len 1 c)) (c + 1) (n - c) (λ u l m. all_counting (λ v. u ≢ v) 1 c (λ v k o. omega arith)))
   where
     strict : (a m : ℕ) → Led (λ u v. u ≢ v) (range_with_len a m)
     strict a zero = tt
@@ -165,7 +165,7 @@ order_all n c d h v =
     (cases_lt c (start_node d))))
     (cases_Bool (holds d c))
 
-pub order_size : (n c : ℕ) (routes : List Route) → c ≤ n → All (Valid n) routes → turns_size c routes (order n c) ≡ sum_of (λ d. d.demand.units) routes
+pub order_size : (n c : ℕ) (routes : List Route) → c ≤ n → Each (Valid n) routes → turns_size c routes (order n c) ≡ sum_of (λ d. d.demand.units) routes
 order_size n c routes h valid =
     sum_eq (turn_size c routes) (λ r. count_of (λ _. true) (units_of (filter (comes c r) routes))) (order n c) (all_of _ (λ r. sym (count_units (λ _. true) (comes c r) routes)) (order n c))
     ∙ sym (count_joined (λ _. true) (λ r. units_of (filter (comes c r) routes)) (order n c))
@@ -184,9 +184,9 @@ length_out_turns n c routes (r ∷ rs) marks out h =
     length_out_turns n c routes rs (fold (marks_after n (comes c r)) marks routes) (filled n (comes c r) marks out routes) (h ∙ sym (length_filled n (comes c r) routes marks out (omega arith)))
     ∙ length_filled n (comes c r) routes marks out (omega arith)
 
-pub drawn_agrees : (n c : ℕ) (routes : List Route) (marks out : List ℕ) → c ≤ n → All (Valid n) routes → Distinct routes → Empty marks → length out ≤ length marks →
+pub drawn_agrees : (n c : ℕ) (routes : List Route) (marks out : List ℕ) → c ≤ n → Each (Valid n) routes → Distinct routes → Empty marks → length out ≤ length marks →
     sum_of (λ d. d.demand.units) routes ≡ length out →
-    (sum_of (λ d. d.demand.units) routes ≡ length (slots_turns n c routes marks out (order n c))) × All (λ d. (false || some (λ r. comes c r d) (order n c)) ≡ true) routes
+    (sum_of (λ d. d.demand.units) routes ≡ length (slots_turns n c routes marks out (order n c))) × Each (λ d. (false || some (λ r. comes c r d) (order n c)) ≡ true) routes
     × Agree (λ d. false || some (λ r. comes c r d) (order n c)) (fitted (shares n) (turns n routes c)) (slots_turns n c routes marks out (order n c)) routes
 drawn_agrees n c routes marks out cn valid distinct empty room places =
     let size : turns_size c routes (order n c) ≡ sum_of (λ d. d.demand.units) routes = order_size n c routes cn valid in (

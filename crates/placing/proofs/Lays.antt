@@ -1,6 +1,6 @@
 -- What the parts of a drawing ask for and give.
 use Rattle.std.proofs.Common.{◌≡◌, ℕ, ◌≤◌, List, length, sym, ap, ◌∙◌, subst, arith}
-use Rattle.std.specs.List.{AllByRecursion as All}
+use Rattle.std.specs.List.{AllByRecursion as Each}
 use Rattle.ring.specs.Ring.{WithinLimits, units}
 use Rattle.ring.specs.Sides.{Choice, route_units, routes_by}
 use Rattle.ring.specs.declared.Demand.{Demand}
@@ -32,10 +32,10 @@ module _ (n : ℕ) (σ : Choice) (ds : List Demand) (limits : WithinLimits n ds)
   units_by_lem = ap route_units is ∙ units_same σ n ds
 
   -- each route has as many slots as units
-  counts : All (λ (d : Route). length (slots_of 1 d (slotted n (routes_by σ n ds))) ≡ d.demand.units) (routes_by σ n ds)
+  counts : Each (λ (d : Route). length (slots_of 1 d (slotted n (routes_by σ n ds))) ≡ d.demand.units) (routes_by σ n ds)
   counts =
       let n1 : 1 ≤ n = omega (arith, limits.least) in
-      subst (λ ss. All (λ (d : Route). length (slots_of 1 d ss) ≡ d.demand.units) (routes_by σ n ds)) (sym (slotted_fits n (routes_by σ n ds) n1))
+      subst (λ ss. Each (λ (d : Route). length (slots_of 1 d ss) ≡ d.demand.units) (routes_by σ n ds)) (sym (slotted_fits n (routes_by σ n ds) n1))
       (rows_count n (routes_by σ n ds) n1 (valid_routes σ n ds limits.fitting) (distinct_routes σ n ds limits.numbered))
 
   pub rows_drawn : (slots : List ℕ) (rows : List Row) → slots ≡ slots_in (slotted n routes) routes → rows ≡ rows_from routes slots → rows ≡ drawn n σ ds

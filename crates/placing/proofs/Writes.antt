@@ -1,6 +1,6 @@
 -- The steps of writing rows.
 use Rattle.std.proofs.Common.{◌≡◌, ℕ, ◌+◌, ◌-◌, ◌<◌, ◌≤◌, List, [], ◌∷◌, ◌++◌, map, length, get_or, take, drop, sym, refl, ap, ◌∙◌, ap₂, arith}
-use Rattle.std.specs.List.{AllByRecursion as All}
+use Rattle.std.specs.List.{AllByRecursion as Each}
 use Rattle.std.proofs.lemmas.List.{append_assoc, append-nil, take_more, drop-drop, at_drop_more, at_drop_all, map-append, length-take-le, length-drop, take_at, drop_at}
 use Rattle.ring.specs.Sides.{code, route_units}
 use Rattle.ring.specs.declared.Row.{Row}
@@ -44,7 +44,7 @@ pub rows_end : (routes : List Route) (slots : List ℕ) (i : ℕ) (items whole :
 rows_end routes slots i items whole le h = sym (append-nil items) ∙ sym (at_drop_all (λ ds. items ++ rows_from ds slots) routes i le) ∙ h
 
 -- the rows from the slots that the routes have are the rows in those slots
-pub rows_from_slots : (ss : List (List Route)) (routes : List Route) → All (λ (d : Route). length (slots_of 1 d ss) ≡ d.demand.units) routes →
+pub rows_from_slots : (ss : List (List Route)) (routes : List Route) → Each (λ (d : Route). length (slots_of 1 d ss) ≡ d.demand.units) routes →
     rows_from routes (slots_in ss routes) ≡ rows_in ss routes
 rows_from_slots ss [] h = refl
 rows_from_slots ss (d ∷ ds) h =

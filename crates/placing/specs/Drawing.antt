@@ -1,7 +1,7 @@
 -- What the placing does to the marks and to the list of slots, turn after turn. The marks are the sheet's, one a slot; the list has a place for
 -- each unit, those of one route after those of another.
 use Rattle.std.specs.Prelude.{◌≡◌, ℕ, ◌≤◌, Bool, cond, not, ◌&&◌, List, [], ◌∷◌, ◌++◌, map, length, take, drop, replicate, fold, ◌==◌, slice_index}
-use Rattle.std.specs.List.{range_with_len, AllByRecursion as All}
+use Rattle.std.specs.List.{range_with_len, AllByRecursion as Each}
 use Rattle.ring.specs.Sums.{sum_of}
 use Rattle.ring.specs.Sides.{code, holds, route_units}
 use Rattle.ring.specs.Masks.{link_mask}
@@ -69,7 +69,7 @@ Empty marks = (k : ℕ) → slice_index marks k ≡ 0
 pub record Ready (n : ℕ) (routes : List Route) (marks out : List ℕ) : Type 0 where
   pub least : 3 ≤ n
   pub most : n ≤ 16
-  pub valid : All (Valid n) routes
+  pub valid : Each (Valid n) routes
   pub distinct : Distinct routes
   pub long : length marks ≤ 1024
   pub room : length out ≤ length marks

@@ -1,6 +1,6 @@
 -- The text of a plan reads back.
 use Rattle.std.proofs.Common.{◌≡◌, ℕ, suc, ◌+◌, ◌*◌, ◌/◌, ◌%◌, ◌<◌, ◌≤◌, ltb, List, [], ◌∷◌, ◌++◌, map, length, Ok, refl, ap, ◌∙◌, arith}
-use Rattle.std.specs.List.{flat_map, AllByRecursion as All}
+use Rattle.std.specs.List.{flat_map, AllByRecursion as Each}
 use Rattle.std.proofs.lemmas.Bool.{lt-ltb, cond-true}
 use Rattle.std.proofs.ByRecursion.{All-append, All-map}
 use Rattle.lines.specs.Lines.{lines_of, line_bytes}
@@ -35,7 +35,7 @@ frame_back line (EndFrame ds us ss) =
     ∙ ap (λ n. Ok (EndFrame ds us n)) (two ss)
 
 -- its bytes are bytes, and there are some
-pub frame_small : (f : Frame) → Sized f → All (λ b. b < 256) (frame_bytes f)
+pub frame_small : (f : Frame) → Sized f → Each (λ b. b < 256) (frame_bytes f)
 frame_small (RingFrame number nodes) h = (omega arith, (omega arith, (omega arith, (h.1, tt))))
 frame_small (DemandFrame d) h = (omega arith, (omega arith, (omega arith, (h.1, (h.2, (h.3, tt))))))
 frame_small (UnitFrame r) h = (omega arith, (omega arith, (omega arith, (h.1, (omega arith, (omega arith, tt))))))
@@ -52,7 +52,7 @@ pub in_back : (line : ℕ) (f : Frame) → Sized f → frame_in line (line_bytes
 in_back line f h = ap (frame_in line) (line_back line (frame_bytes f) (frame_small f h) (frame_some f)) ∙ frame_back line f
 
 -- the lines of the text of frames are the texts of the frames
-pub lines_frames : (fs : List Frame) → All Sized fs → lines_of (flat_map frame_text fs) ≡ map frame_text fs
+pub lines_frames : (fs : List Frame) → Each Sized fs → lines_of (flat_map frame_text fs) ≡ map frame_text fs
 lines_frames [] h = refl
 lines_frames (f ∷ fs) (h, hs) = lines_text (frame_bytes f) (flat_map frame_text fs) (frame_small f h) ∙ ap (λ ls. frame_text f ∷ ls) (lines_frames fs hs)
 
@@ -68,7 +68,7 @@ gave fs p = record { frames = fs; outcome = Ok p }
 
 module _ (forDemands forUnits number nodes a b c : ℕ) (last : Sized (EndFrame a b c)) where
   -- from the units on
-  pub read_units : (line ds us : ℕ) (rows : List Row) → All (λ r. Sized (UnitFrame r)) rows → us + length rows ≤ forUnits → read_lines forDemands forUnits line (standing Units number nodes ds us) (map frame_text (map UnitFrame rows ++ (EndFrame a b c ∷ []))) ≡ gave (map UnitFrame rows ++ (EndFrame a b c ∷ [])) (ended number nodes ds (us + length rows) a b c)
+  pub read_units : (line ds us : ℕ) (rows : List Row) → Each (λ r. Sized (UnitFrame r)) rows → us + length rows ≤ forUnits → read_lines forDemands forUnits line (standing Units number nodes ds us) (map frame_text (map UnitFrame rows ++ (EndFrame a b c ∷ []))) ≡ gave (map UnitFrame rows ++ (EndFrame a b c ∷ [])) (ended number nodes ds (us + length rows) a b c)
   read_units line ds us [] h room =
       let z : us ≡ us + 0 = omega arith in
       read_one forDemands forUnits line (standing Units number nodes ds us) (ended number nodes ds us a b c) (EndFrame a b c) (frame_text (EndFrame a b c)) [] (in_back line (EndFrame a b c) last) refl
@@ -81,7 +81,7 @@ module _ (forDemands forUnits number nodes a b c : ℕ) (last : Sized (EndFrame 
       ∙ ap (began (UnitFrame r)) (read_units (line + 1) ds (us + 1) rows hs rest)
       ∙ ap (λ n. gave (UnitFrame r ∷ (map UnitFrame rows ++ (EndFrame a b c ∷ []))) (ended number nodes ds n a b c)) z
 
-  pub read_first : (line ds : ℕ) (rows : List Row) → All (λ r. Sized (UnitFrame r)) rows → length rows ≤ forUnits → read_lines forDemands forUnits line (standing Demands number nodes ds 0) (map frame_text (map UnitFrame rows ++ (EndFrame a b c ∷ []))) ≡ gave (map UnitFrame rows ++ (EndFrame a b c ∷ [])) (ended number nodes ds (length rows) a b c)
+  pub read_first : (line ds : ℕ) (rows : List Row) → Each (λ r. Sized (UnitFrame r)) rows → length rows ≤ forUnits → read_lines forDemands forUnits line (standing Demands number nodes ds 0) (map frame_text (map UnitFrame rows ++ (EndFrame a b c ∷ []))) ≡ gave (map UnitFrame rows ++ (EndFrame a b c ∷ [])) (ended number nodes ds (length rows) a b c)
   read_first line ds [] h room =
       read_one forDemands forUnits line (standing Demands number nodes ds 0) (ended number nodes ds 0 a b c) (EndFrame a b c) (frame_text (EndFrame a b c)) [] (in_back line (EndFrame a b c) last) refl
   read_first line ds (r ∷ rows) (h, hs) room =
@@ -93,7 +93,7 @@ module _ (forDemands forUnits number nodes a b c : ℕ) (last : Sized (EndFrame 
       ∙ ap (λ n. gave (UnitFrame r ∷ (map UnitFrame rows ++ (EndFrame a b c ∷ []))) (ended number nodes ds n a b c)) z
 
   -- from the demands on
-  pub read_demands : (line ds : ℕ) (demands : List Demand) (rows : List Row) → All (λ d. Sized (DemandFrame d)) demands → All (λ r. Sized (UnitFrame r)) rows → ds + length demands ≤ forDemands → length rows ≤ forUnits → read_lines forDemands forUnits line (standing Demands number nodes ds 0) (map frame_text (map DemandFrame demands ++ (map UnitFrame rows ++ (EndFrame a b c ∷ [])))) ≡ gave (map DemandFrame demands ++ (map UnitFrame rows ++ (EndFrame a b c ∷ []))) (ended number nodes (ds + length demands) (length rows) a b c)
+  pub read_demands : (line ds : ℕ) (demands : List Demand) (rows : List Row) → Each (λ d. Sized (DemandFrame d)) demands → Each (λ r. Sized (UnitFrame r)) rows → ds + length demands ≤ forDemands → length rows ≤ forUnits → read_lines forDemands forUnits line (standing Demands number nodes ds 0) (map frame_text (map DemandFrame demands ++ (map UnitFrame rows ++ (EndFrame a b c ∷ [])))) ≡ gave (map DemandFrame demands ++ (map UnitFrame rows ++ (EndFrame a b c ∷ []))) (ended number nodes (ds + length demands) (length rows) a b c)
   read_demands line ds [] rows h k room wide =
       let z : ds ≡ ds + 0 = omega arith in
       read_first line ds rows k wide ∙ ap (λ n. gave (map UnitFrame rows ++ (EndFrame a b c ∷ [])) (ended number nodes n (length rows) a b c)) z
@@ -123,8 +123,8 @@ rows_back [] rows a b c = rows_units rows a b c
 rows_back (d ∷ demands) rows a b c = rows_back demands rows a b c
 
 -- the whole file
-module _ (number nodes : ℕ) (demands : List Demand) (rows : List Row) (slots : ℕ) (ring : Sized (RingFrame number nodes)) (hd : All (λ d. Sized (DemandFrame d)) demands) (hr : All (λ r. Sized (UnitFrame r)) rows) (last : Sized (EndFrame (length demands) (length rows) slots)) where
-  sized_all : All Sized (plan_frames number nodes demands rows slots)
+module _ (number nodes : ℕ) (demands : List Demand) (rows : List Row) (slots : ℕ) (ring : Sized (RingFrame number nodes)) (hd : Each (λ d. Sized (DemandFrame d)) demands) (hr : Each (λ r. Sized (UnitFrame r)) rows) (last : Sized (EndFrame (length demands) (length rows) slots)) where
+  sized_all : Each Sized (plan_frames number nodes demands rows slots)
   sized_all = (ring, All-append Sized (map DemandFrame demands) (map UnitFrame rows ++ (EndFrame (length demands) (length rows) slots ∷ [])) (All-map Sized DemandFrame demands hd) (All-append Sized (map UnitFrame rows) (EndFrame (length demands) (length rows) slots ∷ []) (All-map Sized UnitFrame rows hr) (last, tt)))
 
   pub file_read : (forDemands forUnits : ℕ) → length demands ≤ forDemands → length rows ≤ forUnits → reading forDemands forUnits (file_text number nodes demands rows slots) ≡ gave (plan_frames number nodes demands rows slots) (whole number nodes (length demands) (length rows) slots)

@@ -2,7 +2,7 @@
 #![tactic(auto)]
 
 ghost use Rattle.std.specs.Prelude.{◌≡◌, ◌+◌, ◌*◌, ◌/◌, ◌%◌, ◌<◌, ◌≤◌, map, length, take, IfOk, if◌then◌else◌, Ok, Err, nat_le};
-ghost use Rattle.std.specs.List.{flat_map, AllByRecursion as All};
+ghost use Rattle.std.specs.List.{flat_map, AllByRecursion as Each};
 ghost use Rattle.refusals.specs.declared.Refusal.TheVariants.{TooFew};
 ghost use Rattle.lines.specs.Writes.{overwrite};
 ghost use Rattle.frames.specs.declared.Frame.TheVariants.{RingFrame, DemandFrame, UnitFrame, EndFrame};
@@ -91,7 +91,7 @@ fn put_demands(bytes: &mut [u8], at: usize, demands: &[Demand]) -> usize
     requires { at + 13 * length demands.now ≤ length bytes.old }
     ensures written { bytes.new ≡ overwrite bytes.old at (flat_map frame_text (map DemandFrame demands.now)) }
     ensures next { result ≡ at + 13 * length demands.now }
-    ensures sized { All (λ d. Sized (DemandFrame d)) demands.now }
+    ensures sized { Each (λ d. Sized (DemandFrame d)) demands.now }
 {
     let mut place = at;
     for d in demands {
@@ -105,7 +105,7 @@ fn put_rows(bytes: &mut [u8], at: usize, rows: &[Row]) -> usize
     requires { at + 13 * length rows.now ≤ length bytes.old }
     ensures written { bytes.new ≡ overwrite bytes.old at (flat_map frame_text (map UnitFrame rows.now)) }
     ensures next { result ≡ at + 13 * length rows.now }
-    ensures sized { All (λ d. Sized (UnitFrame d)) rows.now }
+    ensures sized { Each (λ d. Sized (UnitFrame d)) rows.now }
 {
     let mut place = at;
     for row in rows {

@@ -1,6 +1,6 @@
 -- Slots without gaps.
 use Rattle.std.proofs.Common.{◌≡◌, ℕ, zero, suc, ◌+◌, ◌<◌, Bool, true, false, cond, ◌||◌, eqb, List, [], ◌∷◌, sym, refl, ap, ◌∙◌, ⊎_elim, arith}
-use Rattle.std.specs.List.{AllByRecursion as All}
+use Rattle.std.specs.List.{AllByRecursion as Each}
 use Rattle.std.proofs.ByRecursion.{All-weaker}
 use Rattle.std.proofs.lemmas.Bool.{eqb-true, eq-eqb, ne_eqb, cases_eq, or_parts, false≢true}
 use Rattle.ring.specs.Sums.{sum_of, one, count_of, sum_to}
@@ -38,11 +38,11 @@ single j (k ∷ ks) o h = go (eqb j k) refl h (single j ks o.1)
     go true q r ih = omega (arith, absent j ks (ap (λ x. has x ks) (eqb-true j k q) ∙ o.0))
     go false q r ih = omega (arith, ih r)
 
-all_in : (m : ℕ) (rows : List Row) → All (λ (r : Row). Link m r.slot) rows → All (λ (k : ℕ). Link m k) (slots rows)
+all_in : (m : ℕ) (rows : List Row) → Each (λ (r : Row). Link m r.slot) rows → Each (λ (k : ℕ). Link m k) (slots rows)
 all_in m [] h = tt
 all_in m (r ∷ rs) h = go (has r.slot (slots rs)) (all_in m rs h.1)
   where
-    go : (t : Bool) → All (λ (k : ℕ). Link m k) (slots rs) → All (λ (k : ℕ). Link m k) (cond t (slots rs) (r.slot ∷ slots rs))
+    go : (t : Bool) → Each (λ (k : ℕ). Link m k) (slots rs) → Each (λ (k : ℕ). Link m k) (cond t (slots rs) (r.slot ∷ slots rs))
     go true ih = ih
     go false ih = (h.0, ih)
 

@@ -1,17 +1,17 @@
 -- The test of the limits decides them.
 use Rattle.std.proofs.Common.{◌≡◌, ℕ, ◌≤◌, Bool, true, not, ◌&&◌, eqb, ltb, leb, List, [], ◌∷◌, length, refl}
-use Rattle.std.specs.List.{AllByRecursion as All}
+use Rattle.std.specs.List.{AllByRecursion as Each}
 use Rattle.std.proofs.lemmas.Bool.{and_parts, and_from, leb-true, le-leb, ltb-true, lt-ltb, not-true, not_from_false, ne_eqb, eq-eqb, both_ways}
 use Rattle.ring.specs.Sums.{each}
 use Rattle.ring.specs.Ring.{Ends, Numbered, WithinLimits, units, ends_test, units_test, numbered_test, within_limits}
 use Rattle.ring.specs.Claims.{LimitsDecided}
 use Rattle.ring.specs.declared.Demand.{Demand}
 
-all_each : {X : Type 0} (p : X → Bool) (P : X → Type 0) → ((x : X) → p x ≡ true → P x) → (xs : List X) → each p xs ≡ true → All P xs
+all_each : {X : Type 0} (p : X → Bool) (P : X → Type 0) → ((x : X) → p x ≡ true → P x) → (xs : List X) → each p xs ≡ true → Each P xs
 all_each p P f [] h = tt
 all_each p P f (x ∷ xs) h = let q = and_parts (p x) (each p xs) h in (f x q.0, all_each p P f xs q.1)
 
-each_all : {X : Type 0} (p : X → Bool) (P : X → Type 0) → ((x : X) → P x → p x ≡ true) → (xs : List X) → All P xs → each p xs ≡ true
+each_all : {X : Type 0} (p : X → Bool) (P : X → Type 0) → ((x : X) → P x → p x ≡ true) → (xs : List X) → Each P xs → each p xs ≡ true
 each_all p P f [] h = refl
 each_all p P f (x ∷ xs) h = and_from (p x) (each p xs) (f x h.0) (each_all p P f xs h.1)
 

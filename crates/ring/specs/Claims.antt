@@ -1,6 +1,6 @@
 -- What some of the definitions mean in other words.
 use Rattle.std.specs.Prelude.{◌≡◌, ℕ, true, List}
-use Rattle.std.specs.List.{AllByRecursion as All}
+use Rattle.std.specs.List.{AllByRecursion as Each}
 use Rattle.ring.specs.Ring.{Link, WithinLimits, within_limits, slots, slot_count, Clear, ClearAt, Once, has, in_use}
 use Rattle.ring.specs.declared.Demand.{Demand}
 use Rattle.ring.specs.declared.Row.{Row}
@@ -19,4 +19,4 @@ SlotsCountedOnce rows = Once (slots rows) × ((k : ℕ) → has k (slots rows) �
 
 -- where the slots in use are 1 to m without a gap, m are counted
 abbrev pub GaplessSlotsCounted : List Row → Type 0
-GaplessSlotsCounted rows = (m : ℕ) → All (λ (r : Row). Link m r.slot) rows → ((k : ℕ) → Link m k → in_use k rows ≡ true) → slot_count rows ≡ m
+GaplessSlotsCounted rows = (m : ℕ) → Each (λ (r : Row). Link m r.slot) rows → ((k : ℕ) → Link m k → in_use k rows ≡ true) → slot_count rows ≡ m

@@ -1,7 +1,7 @@
 -- Routes, cuts, demands, rows and plans. A ring has n nodes, 1 to n clockwise, and n links: link e joins the nodes e and e + 1, and link n
 -- the nodes n and 1. Numbers have no upper end here, so whatever is said of every plan holds of plans with slots of any size.
 use Rattle.std.specs.Prelude.{◌≡◌, ℕ, ◌+◌, ◌-◌, ◌/◌, ◌<◌, ◌≤◌, Bool, true, false, cond, not, ◌&&◌, ◌||◌, leb, List, [], ◌∷◌, length, ◌==◌, ◌≢◌, nat_eq, nat_le, nat_lt, slice_index_or}
-use Rattle.std.specs.List.{AllByRecursion as All}
+use Rattle.std.specs.List.{AllByRecursion as Each}
 use Rattle.ring.specs.Sums.{sum_of, count_of, most_of, each}
 use Rattle.ring.specs.declared.Demand.{Demand}
 use Rattle.ring.specs.declared.Row.{Row}
@@ -50,11 +50,11 @@ lower_bound_of n ds = (heaviest n ds + 1) / 2
 -- no number is given twice
 abbrev pub Numbered : List Demand → Type 0
 Numbered [] = Unit {0}
-Numbered (d ∷ ds) = All (λ (c : Demand). c.number ≢ d.number) ds × Numbered ds
+Numbered (d ∷ ds) = Each (λ (c : Demand). c.number ≢ d.number) ds × Numbered ds
 
 -- the ends are on the ring, the lower below the upper
 abbrev pub Fitting : ℕ → List Demand → Type 0
-Fitting n ds = All (λ (d : Demand). Ends n d.lower d.upper) ds
+Fitting n ds = Each (λ (d : Demand). Ends n d.lower d.upper) ds
 
 -- all units of the demands
 abbrev pub units : List Demand → ℕ
@@ -67,8 +67,8 @@ pub record WithinLimits (n : ℕ) (ds : List Demand) : Type 0 where
   pub most : n ≤ 16
   pub fitting : Fitting n ds
   pub numbered : Numbered ds
-  pub numbers : All (λ (d : Demand). 1 ≤ d.number) ds
-  pub sized : All (λ (d : Demand). (1 ≤ d.units) × (d.units ≤ 48)) ds
+  pub numbers : Each (λ (d : Demand). 1 ≤ d.number) ds
+  pub sized : Each (λ (d : Demand). (1 ≤ d.units) × (d.units ≤ 48)) ds
   pub few : length ds ≤ 128
   pub total : units ds ≤ 1024
 
@@ -131,16 +131,16 @@ Apart n ds r q = q.slot ≡ r.slot → (e : ℕ) → Link n e → row_over ds r 
 -- any two rows may
 abbrev pub Clear : ℕ → List Demand → List Row → Type 0
 Clear n ds [] = Unit {0}
-Clear n ds (r ∷ rs) = All (λ (q : Row). Apart n ds r q) rs × Clear n ds rs
+Clear n ds (r ∷ rs) = Each (λ (q : Row). Apart n ds r q) rs × Clear n ds rs
 
 -- The rows are a plan for the demands. A rival of a plan is any rows that are a plan for the same demands, however routed and slotted.
 pub record Plan (n : ℕ) (ds : List Demand) (rows : List Row) : Type 0 where
   -- every row is of one of the demands
-  pub known : All (λ (r : Row). named ds r.demand ≡ true) rows
+  pub known : Each (λ (r : Row). named ds r.demand ≡ true) rows
   -- each demand has as many rows as units
-  pub full : All (λ (d : Demand). count_of (λ (r : Row). nat_eq d.number r.demand) rows ≡ d.units) ds
+  pub full : Each (λ (d : Demand). count_of (λ (r : Row). nat_eq d.number r.demand) rows ≡ d.units) ds
   -- its rows have one side, 0 or 1
-  pub sided : All (λ (d : Demand). (s : ℕ) × (s ≤ 1) × All (λ (r : Row). r.demand ≡ d.number → r.side ≡ s) rows) ds
+  pub sided : Each (λ (d : Demand). (s : ℕ) × (s ≤ 1) × Each (λ (r : Row). r.demand ≡ d.number → r.side ≡ s) rows) ds
   -- no two rows in one slot have routes that share a link
   pub clear : Clear n ds rows
 

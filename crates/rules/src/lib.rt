@@ -10,7 +10,7 @@ pub mod weights;
 
 ghost use Rattle.std.specs.Prelude.{◌≡◌, ℕ, length};
 ghost use Rattle.ring.specs.declared.Side.{Side};
-ghost use Rattle.ring.specs.Sides.{Parallel, Elsewhere, on_ring, route_by, routes_by, short_side, shut as shutSide, light_side};
+ghost use Rattle.ring.specs.Sides.{Parallel, Elsewhere, on_ring, route_by, routes_by, short_side, shut as shut_side, light_side};
 ghost use Rattle.rules.specs.Law.{LongWaysBreakTheLaw};
 ghost use Rattle.ring.proofs.Laws.{short_parallel, short_elsewhere, shut_parallel, shut_elsewhere, light_parallel, light_elsewhere};
 
@@ -90,7 +90,7 @@ impl Rule for ShortSide {
 }
 
 impl Rule for ShutLink {
-    ghost side = { λ r. shutSide r.link };
+    ghost side = { λ r. shut_side r.link };
 
     ghost parallel = { λ r. shut_parallel r.link r.low };
 

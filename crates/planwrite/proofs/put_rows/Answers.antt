@@ -1,5 +1,5 @@
 use Rattle.std.proofs.Common.{◌≤◌, length, ◌∙◌, subst, arith}
-use Rattle.std.specs.List.{AllByRecursion as All}
+use Rattle.std.specs.List.{AllByRecursion as Each}
 use Rattle.std.proofs.lemmas.List.{take_all}
 use Rattle.std.proofs.ByRecursion.{All-more}
 use Rattle.ring.specs.declared.Row.{Row}
@@ -30,5 +30,5 @@ returns c =
     record {
       written = frames_all UnitFrame c.loop-row.bytes c.loop-row.place ds i left ∙ c.loop-row.invariant.1;
       next = omega arith;
-      sized = subst (All (λ d. Sized (UnitFrame d))) (take_all i ds left) c.loop-row.invariant.2;
+      sized = subst (Each (λ d. Sized (UnitFrame d))) (take_all i ds left) c.loop-row.invariant.2;
     }
