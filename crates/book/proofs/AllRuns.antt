@@ -1,10 +1,9 @@
 -- The law over all runs of the code's book, from the law of the calls: each step of a run is a call's contract.
-use Rattle.std.proofs.Common.{◌≡◌, ℕ, ◌≤◌, true, leb, List, [], ◌∷◌, length, sym, refl, ap, ◌∙◌, subst, arith}
+use Rattle.std.proofs.Common.{◌≡◌, ℕ, ◌≤◌, true, leb, List, [], ◌∷◌, sym, subst, arith}
 use Rattle.std.proofs.lemmas.Bool.{and_parts, leb-true}
 use Rattle.ring.specs.declared.Demand.{Demand}
 use Rattle.ring.specs.declared.Row.{Row}
-use Rattle.booklaw.specs.Books.{State, fresh}
-use Rattle.booklaw.specs.Calls.{Call, Issue, Answer, accepted, answer, after}
+use Rattle.booklaw.specs.Calls.{Issue, accepted, answer, after}
 use Rattle.booklaw.specs.Histories.{Event, Unreturned}
 use Rattle.booklaw.proofs.AllCalls.{Kept, begins, goes_on, lawful, Held, held_begins, held_goes_on, held_same}
 use Rattle.book.specs.declared.book.Book.{Book}

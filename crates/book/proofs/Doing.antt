@@ -1,5 +1,5 @@
 -- A call that is accepted, and what the book keeps over it.
-use Rattle.std.proofs.Common.{◌≡◌, ℕ, ◌+◌, ◌<◌, ◌≤◌, Bool, true, false, cond, not, eqb, ltb, ◌⊎◌, List, [], length, set, Err, vec_items, vec_len, Result, sym, refl, ap, ◌∙◌, subst, inl, inr, arith}
+use Rattle.std.proofs.Common.{◌≡◌, ℕ, ◌+◌, ◌<◌, ◌≤◌, Bool, true, false, cond, not, eqb, ◌⊎◌, List, [], length, set, Err, Result, sym, refl, ap, ◌∙◌, subst, inl, inr, arith}
 use Rattle.std.specs.List.{remove}
 use Rattle.std.proofs.lemmas.List.{nil_from_length}
 use Rattle.std.proofs.lemmas.Bool.{and_parts, le-ltb, not_from_true, cond-true}
@@ -17,7 +17,7 @@ use Rattle.planwrite.specs.Texts.{file_text}
 use Rattle.planwrite.specs.Fronts.{fronted, fronting}
 use Rattle.booklaw.specs.declared.Card.{Card}
 use Rattle.booklaw.specs.declared.Drawing.{Drawing}
-use Rattle.booklaw.specs.declared.Drawing.TheVariants.{Open, ByRule, BestLink}
+use Rattle.booklaw.specs.declared.Drawing.TheVariants.{ByRule, BestLink}
 use Rattle.booklaw.specs.Books.{State, is_open, planned, most_rows, without, card_of, is_out, outs, fits}
 use Rattle.booklaw.specs.Calls.{Call, Answer, accepted, unless, answer, changed, settled, drawing_on}
 use Rattle.booklaw.proofs.Passing.{numbered_within, removed_without, outs_off}

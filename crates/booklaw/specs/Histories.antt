@@ -1,7 +1,6 @@
 -- The history of a book: which calls were made and what each answered. What is said here of a book is read off its history alone, without looking into the
 -- book. In a history the latest call comes first.
 use Rattle.std.specs.Prelude.{◌≡◌, ℕ, Bool, true, false, cond, List, [], ◌∷◌, ◌++◌, ◌==◌}
-use Rattle.refusals.specs.declared.Refusal.{Refusal}
 use Rattle.ring.specs.Sums.{some, count_of}
 use Rattle.ring.specs.Sides.{Choice, Parallel}
 use Rattle.ring.specs.declared.Demand.{Demand}

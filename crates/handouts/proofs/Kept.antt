@@ -9,7 +9,7 @@ use Rattle.ring.specs.Ring.{named}
 use Rattle.ring.specs.declared.Demand.{Demand}
 use Rattle.ring.specs.declared.Row.{Row}
 use Rattle.checkrows.specs.Track.{line_of, line_at, LineOf}
-use Rattle.planwrite.specs.Fronts.{fronted}
+use Rattle.handouts.specs.Fronts.{in_front}
 use Rattle.booklaw.specs.Books.{has_end, ends_at}
 
 -- ---- the ends of a row's demand
@@ -94,7 +94,7 @@ module _ {X : Type 0} (p : X → Bool) where
             ∙ ap (λ ks. ks ++ drop (at + one (p x)) old) (sym (filter_more p xs i d h)),
       )
 
-  pub copied_all : (xs old : List X) (i at : ℕ) (places : List X) → Copied xs old i at places → length (filter p xs) ≤ length old → length xs ≤ i → places ≡ fronted (filter p xs) old
+  pub copied_all : (xs old : List X) (i at : ℕ) (places : List X) → Copied xs old i at places → length (filter p xs) ≤ length old → length xs ≤ i → places ≡ in_front (filter p xs) old
   copied_all xs old i at places c room h =
       let whole : take i xs ≡ xs = take_all i xs h in
       let kept = filter p xs in

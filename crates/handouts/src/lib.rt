@@ -3,7 +3,7 @@
 
 ghost use Rattle.std.specs.Prelude.{◌≡◌, ◌+◌, ◌^◌, ◌<◌, ◌≤◌, true, length, IfOk, if◌then◌else◌, slice_set};
 ghost use Rattle.ring.specs.Sums.{one};
-ghost use Rattle.planwrite.specs.Fronts.{fronted};
+ghost use Rattle.handouts.specs.Fronts.{in_front};
 ghost use Rattle.booklaw.specs.Books.{has_end, ends_at, node_rows};
 ghost use Rattle.booklaw.specs.Calls.{answered, reading_into};
 
@@ -55,7 +55,7 @@ fn put_wanted(places: &mut [Row], at: usize, row: Row, wanted: bool) -> usize
 /// Writes the rows of the node to the front of the places.
 fn copy_rows(demands: &[Demand], rows: &[Row], node: u8, places: &mut [Row])
     requires { length (node_rows demands.now rows.now node) ≤ length places.old }
-    ensures { places.new ≡ fronted (node_rows demands.now rows.now node) places.old }
+    ensures { places.new ≡ in_front (node_rows demands.now rows.now node) places.old }
 {
     let mut at: usize = 0;
     for row in rows {
@@ -74,7 +74,7 @@ pub fn hand_out(
 ) -> Result<usize, Refusal>
     ensures answer { answered result ≡ reading_into (length places.old) (node_rows demands.now rows.now node) }
     ensures count { IfOk result (λ k. k ≡ length (node_rows demands.now rows.now node)) }
-    ensures written { places.new ≡ fronted (node_rows demands.now rows.now node) places.old }
+    ensures written { places.new ≡ in_front (node_rows demands.now rows.now node) places.old }
 {
     let needed = count_rows(demands, rows, node);
     if places.len() < needed {

@@ -1,21 +1,21 @@
 -- A slip that was just issued is handed back: it is known, and the book is then as it was, but for its counters.
-use Rattle.std.proofs.Common.{◌≡◌, ℕ, ◌+◌, ◌<◌, ◌≤◌, Bool, true, false, not, ◌&&◌, eqb, List, length, set, sym, refl, ap, ◌∙◌, subst, arith}
+use Rattle.std.proofs.Common.{◌≡◌, ℕ, ◌+◌, ◌<◌, true, false, eqb, List, length, set, sym, refl, ap, ◌∙◌, subst, arith}
 use Rattle.std.proofs.lemmas.List.{get_or-set_same, set-set, set-get_or}
 use Rattle.std.proofs.lemmas.Bool.{and_from, eq-eqb, not_from_true}
 use Rattle.refusals.specs.declared.Refusal.{Refusal}
 use Rattle.refusals.specs.declared.Refusal.TheVariants.{SlipUnknown}
 use Rattle.ring.specs.declared.Row.{Row}
 use Rattle.ring.proofs.Limits.{to_limits}
-use Rattle.planwrite.specs.Fronts.{fronted}
-use Rattle.booklaw.specs.Books.{State, is_out, fits, node_rows}
-use Rattle.booklaw.specs.Calls.{Call, Issue, Read, HandBack, Outcome, as_loaded, as_returned, Answer, accepted, refused, unless, answer, changed, settled, after, with_slips}
+use Rattle.handouts.specs.Fronts.{in_front}
+use Rattle.booklaw.specs.Books.{State, is_out, node_rows}
+use Rattle.booklaw.specs.Calls.{Issue, HandBack, Outcome, as_loaded, as_returned, Answer, accepted, refused, unless, answer, changed, settled, after, with_slips}
 use Rattle.booklaw.proofs.Passing.{issue_passed}
 use Rattle.book.specs.declared.book.Book.{Book}
 use Rattle.book.specs.declared.slips.Slip.{Slip}
 use Rattle.booklaw.specs.declared.Stage.TheVariants.{Unread}
 use Rattle.book.specs.Does.{Does, state, demands_in, rows_in}
 use Rattle.book.specs.Slips.{slip_for, now_read}
-use Rattle.loader.specs.Loads.{Loaded, Unloaded}
+use Rattle.loader.specs.Loads.{Loaded}
 
 module _ (b out : Book) (node : ℕ) (d : Does b (Issue node) accepted out) where
   may : answer (state b) (Issue node) ≡ accepted
@@ -81,13 +81,13 @@ module _ (b out : Book) (node : ℕ) (d : Does b (Issue node) accepted out) wher
 
     -- the node was loaded
     pub is_loaded : (read : Slip) → read ≡ now_read slip → (count : ℕ) (old new : List Row) → count ≡ length (node_rows (demands_in out) (rows_in out) slip.node) →
-        new ≡ fronted (node_rows (demands_in out) (rows_in out) slip.node) old → (r : Answer) (b' : Book) → Does out (HandBack as_loaded read.book read.node) r b' →
+        new ≡ in_front (node_rows (demands_in out) (rows_in out) slip.node) old → (r : Answer) (b' : Book) → Does out (HandBack as_loaded read.book read.node) r b' →
         Loaded (state b) (state b') node count old new
     is_loaded read now-is count old new counted handed r b' e =
         let e' = subst (λ (x : Slip). Does out (HandBack as_loaded x.book x.node) r b') now-is e in
         record {
           counted = counted ∙ ap length rows_are;
-          handed = handed ∙ ap (λ rows. fronted rows old) rows_are;
+          handed = handed ∙ ap (λ rows. in_front rows old) rows_are;
           left = left_loaded r b' (as_issued as_loaded r b' e');
         }
 

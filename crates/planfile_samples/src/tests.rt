@@ -184,9 +184,9 @@ fn a_short_sheet(rt: HostRuntime) {
 
 #[test]
 fn a_fault_is_shown(rt: HostRuntime) {
-    assert_eq!(rt; fault_line(SAMPLE, 2), b"020001010302");
-    assert_eq!(rt; fault_line(SAMPLE, 7), b"04000200030003");
-    assert_eq!(rt; fault_line(SAMPLE, 8), b"");
+    assert_eq!(rt; fault_line(SAMPLE, 2), b"020001010302".as_slice());
+    assert_eq!(rt; fault_line(SAMPLE, 7), b"04000200030003".as_slice());
+    assert_eq!(rt; fault_line(SAMPLE, 8), b"".as_slice());
     let fault = PlanFault::OfFrame(FrameFault::TooFew { needed: 3, line: 4 });
     assert_eq!(rt; fault.line(), 4);
     assert_eq!(rt; fault.cause(), Refusal::TooFew { needed: 3 });

@@ -1,7 +1,7 @@
 //! Handing the plan of a book out node by node, and reopening the book.
 
 ghost use Rattle.std.specs.Prelude.{◌≡◌, ℕ, true, length, IfOk, IfErr, MatchResult};
-ghost use Rattle.planwrite.specs.Fronts.{fronted};
+ghost use Rattle.handouts.specs.Fronts.{in_front};
 ghost use Rattle.booklaw.specs.Books.{outs, fits, node_rows};
 ghost use Rattle.booklaw.specs.Calls.{Issue, Read, HandBack, Reopen, as_loaded, as_returned, answered, answered_back};
 ghost use Rattle.booklaw.specs.declared.Stage.TheVariants.{Unread};
@@ -63,7 +63,7 @@ impl Book {
         requires { IsUnread slip }
         ensures does { Does self.now (Read slip.book slip.node (length rows.old)) (answered_back result) self.now }
         ensures answer { MatchResult result (λ p. (p.0 ≡ length (node_rows (demands_in self.now) (rows_in self.now) slip.node)) × (p.1 ≡ now_read slip)) (λ e. e.1 ≡ slip) }
-        ensures rows { MatchResult result (λ _. rows.new ≡ fronted (node_rows (demands_in self.now) (rows_in self.now) slip.node) rows.old) (λ _. rows.new ≡ rows.old) }
+        ensures rows { MatchResult result (λ _. rows.new ≡ in_front (node_rows (demands_in self.now) (rows_in self.now) slip.node) rows.old) (λ _. rows.new ≡ rows.old) }
     {
         if !self.knows(slip.book, slip.node) {
             return Err((Refusal::SlipUnknown, slip));

@@ -1,25 +1,25 @@
-use Rattle.std.proofs.Common.{◌≡◌, sym, ap, ◌∙◌, subst, inr}
+use Rattle.std.proofs.Common.{◌∙◌, inr}
 use Rattle.booklaw.specs.Calls.{as_returned}
 use Rattle.loader.proofs.Loading.{left_returned, as_issued, is_loaded, never_refused}
 use Rattle.loader.proofs.load_node.Goals as goal
 
 -- the slip that was issued is known, so it is taken back
-pub unreachable-requires-in-Err-hand-back-returned : goal.unreachable-requires-in-Err-hand-back-returned
-unreachable-requires-in-Err-hand-back-returned c =
-    let issue = c.in-ok-slip.ensures in
+pub unreachable-requires-in-Err-hand_back_returned : goal.unreachable-requires-in-Err-hand_back_returned
+unreachable-requires-in-Err-hand_back_returned c =
+    let issue = c.in_ok-slip.ensures in
     let back_is = c.in-Err.ensures.answer in
-    never_refused _ _ c.args.node issue.does c.in-Err.unread (back_is ∙ issue.slip) _ _ c.in-Err-hand-back-returned.ensures.does
+    never_refused _ _ c.args.node issue.does c.in-Err.unread (back_is ∙ issue.slip) _ _ c.in-Err-hand_back_returned.ensures.does
 
-pub returns-in-Ok-hand-back-loaded : goal.returns-in-Ok-hand-back-loaded
-returns-in-Ok-hand-back-loaded c =
-    let issue = c.in-ok-slip.ensures in
+pub returns-in-Ok-hand_back_loaded : goal.returns-in-Ok-hand_back_loaded
+returns-in-Ok-hand_back_loaded c =
+    let issue = c.in_ok-slip.ensures in
     let read = c.in-Ok.ensures in
-    is_loaded _ _ c.args.node issue.does c.in-ok-slip.slip issue.slip c.in-Ok.read read.answer.1 _ _ _ read.answer.0 read.rows _ _
-    c.in-Ok-hand-back-loaded.ensures.does
+    is_loaded _ _ c.args.node issue.does c.in_ok-slip.slip issue.slip c.in-Ok.read read.answer.1 _ _ _ read.answer.0 read.rows _ _
+    c.in-Ok-hand_back_loaded.ensures.does
 
-pub returns-in-Ok-hand-back-returned : goal.returns-in-Ok-hand-back-returned
-returns-in-Ok-hand-back-returned c =
-    let issue = c.in-ok-slip.ensures in
+pub returns-in-Ok-hand_back_returned : goal.returns-in-Ok-hand_back_returned
+returns-in-Ok-hand_back_returned c =
+    let issue = c.in_ok-slip.ensures in
     let read = c.in-Err.ensures in
-    let back = as_issued _ _ c.args.node issue.does c.in-Err.unread (read.answer ∙ issue.slip) as_returned _ _ c.in-Ok-hand-back-returned.ensures.does in
+    let back = as_issued _ _ c.args.node issue.does c.in-Err.unread (read.answer ∙ issue.slip) as_returned _ _ c.in-Ok-hand_back_returned.ensures.does in
     record { kept = read.rows; left = inr (left_returned _ _ c.args.node issue.does _ _ back) }

@@ -6,13 +6,18 @@ use Rattle.book.specs.Does.{demands_in}
 use Rattle.book.proofs.book.Book.enter.Goals as goal
 
 -- the demands stay within the limits, since the new one passed the checks
-pub invariant-of-self : goal.invariant-of-self
-invariant-of-self c =
+pub invariant_of-self : goal.invariant_of-self
+invariant_of-self c =
     let b = c.args.self.now in
-    let e = c.push-reserved.ensures in
-    let d = c.in-ok-demand.ensures in
-    let may = sym (d.answer ∙ ap (λ ds. entering b.size ds c.args.number c.args.a c.args.b c.args.units) c.as-slice.ensures.value) in
-    let now-are = e.items ∙ ap (λ x. demands_in b ++ (x ∷ [])) d.demand in (
-      omega (arith, e.capacity, b.room),
-      (b.space, (subst (λ ds. within_limits b.size ds ≡ true) (sym now-are) (enter_within b.size (demands_in b) _ _ _ _ b.limits may), (b.held, (b.places, (b.accounted, tt))))),
-    )
+    let e = c.push_reserved.ensures in
+    let d = c.in_ok-demand.ensures in
+    let may = sym (d.answer ∙ ap (λ ds. entering b.size ds c.args.number c.args.a c.args.b c.args.units) c.as_slice.ensures.value) in
+    let now-are = e.items ∙ ap (λ x. demands_in b ++ (x ∷ [])) d.demand in
+    record {
+      room = omega (arith, e.capacity, b.room);
+      space = b.space;
+      limits = subst (λ ds. within_limits b.size ds ≡ true) (sym now-are) (enter_within b.size (demands_in b) _ _ _ _ b.limits may);
+      held = b.held;
+      places = b.places;
+      accounted = b.accounted;
+    }

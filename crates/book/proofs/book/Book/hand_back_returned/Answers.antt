@@ -6,13 +6,13 @@ use Rattle.book.proofs.book.Book.hand_back_returned.Goals as goal
 pub bounds-self-node : goal.bounds-self-node
 bounds-self-node c = omega (arith, has_place c.args.self.now c.args.slip.book c.args.slip.node (sym c.if-not-knows.ensures))
 
-pub overflow-add-self : goal.overflow-add-self
-overflow-add-self c = omega (arith, room_back c.args.self.now c.args.slip.book c.args.slip.node (sym c.if-not-knows.ensures))
+pub overflow_add-self : goal.overflow_add-self
+overflow_add-self c = omega (arith, room_back c.args.self.now c.args.slip.book c.args.slip.node (sym c.if-not-knows.ensures))
 
 -- a mark less, and one more handed back
-pub invariant-of-self : goal.invariant-of-self
-invariant-of-self c =
+pub invariant_of-self : goal.invariant_of-self
+invariant_of-self c =
     let b = c.args.self.now in
     let less = one_less b c.args.slip.book c.args.slip.node (sym c.if-not-knows.ensures) in
     let less-at : outs (set b.out c.from-node.result false) + 1 ≡ outs b.out = rw c.from-node.ensures less in
-    (b.room, (b.space, (b.limits, (b.held, (length-set _ _ _ ∙ b.places, (omega (arith, less-at, b.accounted), tt))))))
+    record { room = b.room; space = b.space; limits = b.limits; held = b.held; places = length-set _ _ _ ∙ b.places; accounted = omega (arith, less-at, b.accounted) }
