@@ -59,7 +59,7 @@ pub record SampleRings : Type 0 where
   pub opposites_short : slot_count (drawn 6 short_side opposites) ≡ 3
   -- crossing, by the short side: slots 1, 2 and 3, loads 2, 3, 1, 0, the cut (1, 3) with the total 3, lower bound 2
   pub crossing_short : drawn 4 short_side crossing ≡ crossing_rows 3
-  pub crossing_loads_lem : per_link 4 (load crossing (drawn 4 short_side crossing)) ≡ crossing_loads
+  pub crossing_short_loads : per_link 4 (load crossing (drawn 4 short_side crossing)) ≡ crossing_loads
   pub crossing_cut : heaviest_cut 4 crossing ≡ record { first = 1; second = 3; total = 3 }
   pub crossing_bound : lower_bound_of 4 crossing ≡ 2
   -- three nodes and no demand: no slots, the cut (1, 2) with the total 0
