@@ -10,7 +10,7 @@ abbrev pub demands_in : Book → List Demand
 demands_in b = vec_items b.demands
 
 abbrev pub rows_in : Book → List Row
-rows_in b = vec_items b.rows
+rows_in b = b.rows
 
 -- what a book holds
 abbrev pub state : Book → State
@@ -21,9 +21,9 @@ state b = record {
   drawing = b.drawing;
   rows = rows_in b;
   out = b.out;
-  issued = b.issued;
-  loaded = b.loaded;
-  returned = b.returned;
+  issued = b.counts.issued;
+  loaded = b.counts.loaded;
+  returned = b.counts.returned;
 }
 
 -- THE CONTRACT OF EVERY CALL: made on the book b, the call c answers r and leaves the book b'. A refused call leaves it as it was.

@@ -1,12 +1,14 @@
 //! The book and what always holds of it. The calls stand in the modules below: this file cites no spec that names the book.
 
-ghost use Rattle.std.specs.Prelude.{◌≡◌, ◌+◌, ◌≤◌, true, length, vec_len, vec_capacity};
+ghost use Rattle.std.specs.Prelude.{◌≡◌, ◌+◌, ◌≤◌, true, length, vec_capacity};
 ghost use Rattle.ring.specs.Ring.{within_limits};
 ghost use Rattle.booklaw.specs.Books.{most_rows, outs};
 
-use booklaw::Drawing;
-use ring::{Demand, Row};
+use booklaw::{Drawing, SlipCounts};
+use ring::Demand;
+use slotting::PlanRows;
 
+mod checks;
 mod demands;
 mod drawings;
 mod loading;
@@ -22,16 +24,14 @@ pub struct Book {
     number: u16,
     demands: Vec<Demand>,
     drawing: Drawing,
-    rows: Vec<Row>,
+    rows: PlanRows,
     /// Whether a slip for node v is out, at place v.
+    // Kept: a set would allocate at an issue, and no call after the start may lack memory.
     out: [bool; 17],
-    issued: u16,
-    loaded: u16,
-    returned: u16,
+    counts: SlipCounts,
     ghost room: { 128 ≤ vec_capacity demands },
-    ghost space: { 1024 ≤ vec_capacity rows },
     ghost limits: { within_limits size demands.items ≡ true },
-    ghost held: { vec_len rows ≤ most_rows drawing },
+    ghost held: { length rows ≤ most_rows drawing },
     ghost places: { length out ≡ 17 },
-    ghost accounted: { issued ≡ loaded + returned + outs out },
+    ghost accounted: { counts.issued ≡ counts.loaded + counts.returned + outs out },
 }

@@ -9,6 +9,7 @@ use booklaw::Stage;
 pub struct Slip {
     pub(crate) book: u16,
     pub(crate) node: u8,
+    // Kept: the stage is a field and no type of its own, since the prover has to refuse a loader that reports an unread slip as loaded.
     pub(crate) stage: Stage,
 }
 

@@ -1,7 +1,7 @@
-//! Sample books: tables of calls with the number of the refusal that each gets, and what is left.
+//! Sample books: tables of calls with the number of the refusal that each gets, if it gets one, and what is left.
 
 use book::book::Book;
-use booklaw::{Drawing, SlipCounts, StartFault};
+use booklaw::{Card, Drawing, SlipCounts, StartFault};
 use loader::load_node;
 use ring::{Demand, Refusal, Row};
 use rules::ShortSide;
@@ -25,53 +25,44 @@ enum Act {
     Load(u8, usize),
 }
 
-/// A call, and the number of the refusal that it gets, or 0.
+/// A call, and the number of the refusal that it gets, if it gets one.
 #[derive(Clone, Copy)]
-struct Case(Act, u8);
+struct Case(Act, Option<u8>);
 
-/// The number of a refusal, or 0.
-fn number_of<T: Drop>(answer: Result<T, Refusal>) -> u8 {
-    match answer {
-        Ok(_) => 0,
-        Err(refusal) => refusal.number(),
-    }
+/// The number of the refusal, if the call was refused.
+fn number_of<T: Drop>(answer: Result<T, Refusal>) -> Option<u8> {
+    answer.err().map(|refusal| refusal.number())
 }
 
-/// Draws by the short side or by the best link, on a sheet that is not blank before and has to be after. 255 where it is not.
-fn draw(book: &mut Book, best: bool, marks: usize) -> u8 {
+/// Draws on a sheet of so many marks that is not blank before, and has to be after.
+fn draw<F: FnOnce(&mut [u16]) -> Result<Card, Refusal>>(
+    rt: &impl Abort,
+    marks: usize,
+    plan: F,
+) -> Option<u8>
+    requires { F.IsAlwaysCallable plan }
+{
     let mut sheet = [7u16; 2048];
     let lent = &mut sheet[0..marks.min(2048)];
-    let number = if best {
-        number_of(book.best_link_plan(lent))
-    } else {
-        number_of(book.plan(&ShortSide, lent))
-    };
-    for mark in lent.iter() {
-        if *mark != 0 {
-            return 255;
-        }
-    }
-    number
+    let answer = plan(lent);
+    assert!(rt; lent.iter().all(|mark| *mark == 0));
+    number_of(answer)
 }
 
 /// Makes a call.
-fn perform(book: &mut Book, act: Act) -> u8 {
+fn perform(rt: &impl Abort, book: &mut Book, act: Act) -> Option<u8> {
     match act {
         Act::Enter(number, a, b, units) => number_of(book.enter(number, a, b, units)),
         Act::Withdraw(number) => number_of(book.withdraw(number)),
-        Act::Plan(marks) => draw(book, false, marks),
-        Act::BestLink(marks) => draw(book, true, marks),
+        Act::Plan(marks) => draw(rt, marks, |sheet| book.plan(&ShortSide, sheet)),
+        Act::BestLink(marks) => draw(rt, marks, |sheet| book.best_link_plan(sheet)),
         Act::Reopen => number_of(book.reopen()),
         Act::WriteOut(count) => {
             let mut bytes = [0u8; 256];
             number_of(book.write_out(&mut bytes[0..count.min(256)]))
         }
         Act::Load(node, count) => {
-            let mut places = [Row {
-                demand: 0,
-                side: 0,
-                slot: 0,
-            }; 16];
+            let mut places = [Row::default(); 16];
             number_of(load_node(book, node, &mut places[0..count.min(16)]))
         }
     }
@@ -79,49 +70,50 @@ fn perform(book: &mut Book, act: Act) -> u8 {
 
 /// Makes the calls of a table one after another, and compares what each answers.
 fn perform_all(rt: &impl Abort, book: &mut Book, cases: &[Case]) {
-    for case in cases {
-        assert_eq!(rt; perform(book, case.0), case.1);
+    for Case(act, number) in cases {
+        assert_eq!(rt; perform(rt, book, *act), *number);
     }
 }
 
 /// Two units 1-3 and one unit 2-4, the latter with its ends falling.
 const SAMPLE: [Case; 2] = [
-    Case(Act::Enter(1, 1, 3, 2), 0),
-    Case(Act::Enter(2, 4, 2, 1), 0),
+    Case(Act::Enter(1, 1, 3, 2), None),
+    Case(Act::Enter(2, 4, 2, 1), None),
 ];
 
-/// The number of the refusal that a start gets, or 0.
-fn started(heap: Global, n: u8) -> u8 {
+/// The number of the refusal that a start gets, if it gets one.
+fn refusal_of_start(heap: Global, n: u8) -> Result<Option<u8>, StartFault> {
     match Book::start(heap, n, 7) {
-        Ok(_) => 0,
-        Err(StartFault::Memory) => 255,
-        Err(StartFault::Refused(refusal)) => refusal.number(),
+        Ok(_) => Ok(None),
+        Err(StartFault::Refused(refusal)) => Ok(Some(refusal.number())),
+        Err(fault) => Err(fault),
     }
 }
 
 #[test]
-fn rings_have_3_to_16_nodes(rt: HostRuntime) {
-    assert_eq!(rt; started(rt.alloc(), 2), 1);
-    assert_eq!(rt; started(rt.alloc(), 3), 0);
-    assert_eq!(rt; started(rt.alloc(), 16), 0);
-    assert_eq!(rt; started(rt.alloc(), 17), 1);
+fn rings_have_3_to_16_nodes(rt: HostRuntime) -> Result<(), Fail> {
+    assert_eq!(rt; refusal_of_start(rt.alloc(), 2)?, Some(1));
+    assert_eq!(rt; refusal_of_start(rt.alloc(), 3)?, None);
+    assert_eq!(rt; refusal_of_start(rt.alloc(), 16)?, None);
+    assert_eq!(rt; refusal_of_start(rt.alloc(), 17)?, Some(1));
+    Ok(())
 }
 
 const ENTRIES: [Case; 14] = [
-    Case(Act::Withdraw(1), 8),
-    Case(Act::Enter(1, 1, 4, 48), 0),
-    Case(Act::Enter(1, 0, 0, 0), 4),
-    Case(Act::Enter(1, 4, 5, 0), 4),
-    Case(Act::Enter(1, 3, 3, 0), 5),
-    Case(Act::Enter(1, 3, 2, 0), 6),
-    Case(Act::Enter(1, 3, 2, 49), 6),
-    Case(Act::Enter(1, 3, 2, 48), 7),
-    Case(Act::Enter(0, 3, 2, 48), 7),
-    Case(Act::Enter(2, 3, 2, 48), 0),
-    Case(Act::Withdraw(0), 8),
-    Case(Act::Withdraw(1), 0),
-    Case(Act::Withdraw(1), 8),
-    Case(Act::Enter(1, 3, 2, 1), 0),
+    Case(Act::Withdraw(1), Some(8)),
+    Case(Act::Enter(1, 1, 4, 48), None),
+    Case(Act::Enter(1, 0, 0, 0), Some(4)),
+    Case(Act::Enter(1, 4, 5, 0), Some(4)),
+    Case(Act::Enter(1, 3, 3, 0), Some(5)),
+    Case(Act::Enter(1, 3, 2, 0), Some(6)),
+    Case(Act::Enter(1, 3, 2, 49), Some(6)),
+    Case(Act::Enter(1, 3, 2, 48), Some(7)),
+    Case(Act::Enter(0, 3, 2, 48), Some(7)),
+    Case(Act::Enter(2, 3, 2, 48), None),
+    Case(Act::Withdraw(0), Some(8)),
+    Case(Act::Withdraw(1), None),
+    Case(Act::Withdraw(1), Some(8)),
+    Case(Act::Enter(1, 3, 2, 1), None),
 ];
 
 #[test]
@@ -150,12 +142,15 @@ fn demands_are_checked_in_order(rt: HostRuntime) -> Result<(), Fail> {
 fn a_book_holds_1024_units(rt: HostRuntime) -> Result<(), Fail> {
     let mut book = Book::start(rt.alloc(), 16, 0)?;
     for number in 1..22u16 {
-        assert_eq!(rt; perform(&mut book, Act::Enter(number, 1, 16, 48)), 0);
+        assert_eq!(rt;
+            perform(&rt, &mut book, Act::Enter(number, 1, 16, 48)),
+            None
+        );
     }
     let edge = [
-        Case(Act::Enter(22, 1, 2, 17), 10),
-        Case(Act::Enter(22, 1, 2, 16), 0),
-        Case(Act::Enter(23, 1, 2, 1), 10),
+        Case(Act::Enter(22, 1, 2, 17), Some(10)),
+        Case(Act::Enter(22, 1, 2, 16), None),
+        Case(Act::Enter(23, 1, 2, 1), Some(10)),
     ];
     perform_all(&rt, &mut book, &edge);
     Ok(())
@@ -165,43 +160,43 @@ fn a_book_holds_1024_units(rt: HostRuntime) -> Result<(), Fail> {
 fn a_book_holds_128_demands(rt: HostRuntime) -> Result<(), Fail> {
     let mut book = Book::start(rt.alloc(), 3, 0)?;
     for number in 1..129u16 {
-        assert_eq!(rt; perform(&mut book, Act::Enter(number, 3, 1, 8)), 0);
+        assert_eq!(rt; perform(&rt, &mut book, Act::Enter(number, 3, 1, 8)), None);
     }
     let edge = [
-        Case(Act::Enter(129, 3, 1, 8), 9),
-        Case(Act::Withdraw(64), 0),
-        Case(Act::Enter(129, 3, 1, 9), 10),
-        Case(Act::Enter(129, 3, 1, 8), 0),
+        Case(Act::Enter(129, 3, 1, 8), Some(9)),
+        Case(Act::Withdraw(64), None),
+        Case(Act::Enter(129, 3, 1, 9), Some(10)),
+        Case(Act::Enter(129, 3, 1, 8), None),
     ];
     perform_all(&rt, &mut book, &edge);
     Ok(())
 }
 
 const PLANS: [Case; 24] = [
-    Case(Act::WriteOut(256), 3),
-    Case(Act::Reopen, 3),
-    Case(Act::Load(1, 16), 3),
-    Case(Act::Plan(1023), 15),
-    Case(Act::BestLink(0), 15),
-    Case(Act::Plan(1025), 0),
-    Case(Act::Plan(1024), 2),
-    Case(Act::Plan(0), 2),
-    Case(Act::BestLink(1024), 2),
-    Case(Act::Enter(3, 1, 2, 1), 2),
-    Case(Act::Withdraw(1), 2),
-    Case(Act::WriteOut(88), 15),
-    Case(Act::WriteOut(89), 0),
-    Case(Act::WriteOut(256), 0),
-    Case(Act::Load(0, 16), 4),
-    Case(Act::Load(5, 16), 4),
-    Case(Act::Load(3, 1), 15),
-    Case(Act::Load(3, 2), 0),
-    Case(Act::Load(3, 16), 0),
-    Case(Act::Reopen, 0),
-    Case(Act::Load(3, 16), 3),
-    Case(Act::Withdraw(2), 0),
-    Case(Act::BestLink(1024), 0),
-    Case(Act::Load(4, 0), 0),
+    Case(Act::WriteOut(256), Some(3)),
+    Case(Act::Reopen, Some(3)),
+    Case(Act::Load(1, 16), Some(3)),
+    Case(Act::Plan(1023), Some(15)),
+    Case(Act::BestLink(0), Some(15)),
+    Case(Act::Plan(1025), None),
+    Case(Act::Plan(1024), Some(2)),
+    Case(Act::Plan(0), Some(2)),
+    Case(Act::BestLink(1024), Some(2)),
+    Case(Act::Enter(3, 1, 2, 1), Some(2)),
+    Case(Act::Withdraw(1), Some(2)),
+    Case(Act::WriteOut(88), Some(15)),
+    Case(Act::WriteOut(89), None),
+    Case(Act::WriteOut(256), None),
+    Case(Act::Load(0, 16), Some(4)),
+    Case(Act::Load(5, 16), Some(4)),
+    Case(Act::Load(3, 1), Some(15)),
+    Case(Act::Load(3, 2), None),
+    Case(Act::Load(3, 16), None),
+    Case(Act::Reopen, None),
+    Case(Act::Load(3, 16), Some(3)),
+    Case(Act::Withdraw(2), None),
+    Case(Act::BestLink(1024), None),
+    Case(Act::Load(4, 0), None),
 ];
 
 #[test]
@@ -225,8 +220,8 @@ fn the_card_has_the_figures(rt: HostRuntime) -> Result<(), Fail> {
     perform_all(&rt, &mut book, &SAMPLE);
     let mut sheet = [0u16; 1024];
     let card = book.plan(&ShortSide, &mut sheet)?;
-    assert_eq!(rt; card.slots, 3);
-    assert_eq!(rt; &card.loads[0..5], [2u16, 3, 1, 0, 0].as_slice());
+    assert_eq!(rt; card.figures.slots, 3);
+    assert_eq!(rt; &card.figures.loads[0..5], [2u16, 3, 1, 0, 0].as_slice());
     assert_eq!(rt; card.cut.first, 1);
     assert_eq!(rt; card.cut.second, 3);
     assert_eq!(rt; card.cut.total, 3);
@@ -238,15 +233,15 @@ fn the_card_has_the_figures(rt: HostRuntime) -> Result<(), Fail> {
 fn a_book_issues_65535_slips(rt: HostRuntime) -> Result<(), Fail> {
     let mut book = Book::start(rt.alloc(), 4, 7)?;
     perform_all(&rt, &mut book, &SAMPLE);
-    assert_eq!(rt; perform(&mut book, Act::Plan(1024)), 0);
+    assert_eq!(rt; perform(&rt, &mut book, Act::Plan(1024)), None);
     for _ in 0..65534 {
-        assert_eq!(rt; perform(&mut book, Act::Load(2, 0)), 15);
+        assert_eq!(rt; perform(&rt, &mut book, Act::Load(2, 0)), Some(15));
     }
     let edge = [
-        Case(Act::Reopen, 0),
-        Case(Act::Plan(1024), 0),
-        Case(Act::Load(2, 0), 15),
-        Case(Act::Load(2, 0), 13),
+        Case(Act::Reopen, None),
+        Case(Act::Plan(1024), None),
+        Case(Act::Load(2, 0), Some(15)),
+        Case(Act::Load(2, 0), Some(13)),
     ];
     perform_all(&rt, &mut book, &edge);
     Ok(())

@@ -85,4 +85,4 @@ node_rows ds rows node = filter (ends_at ds node) rows
 -- ---- the card
 -- the figures of a plan: the slot count and the loads of its rows, the heaviest cut with its links and the lower bound of its demands
 abbrev pub card_of : ℕ → List Demand → List Row → Card
-card_of n ds rows = record { slots = slot_count rows; loads = per_link n (load ds rows); cut = heaviest_cut n ds; lower_bound = lower_bound_of n ds }
+card_of n ds rows = record { figures = record { slots = slot_count rows; loads = per_link n (load ds rows) }; cut = heaviest_cut n ds; lower_bound = lower_bound_of n ds }

@@ -2,3 +2,4 @@ pub mod Books
 pub mod Calls
 pub mod Histories
 pub mod Laws
+pub mod Faults

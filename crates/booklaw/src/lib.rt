@@ -4,13 +4,16 @@
 //! and leaves, and what a history of calls and answers says by itself; the law ties the two together. The crate `book` has the code.
 #![tactic(auto)]
 
-ghost use Rattle.std.specs.Prelude.{◌≡◌};
+ghost use Rattle.std.specs.Prelude.{◌≡◌, Some};
 ghost use Rattle.booklaw.specs.declared.StartFault.TheVariants.{Memory};
 ghost use Rattle.booklaw.specs.Books.{is_open};
+ghost use Rattle.booklaw.specs.Faults.{fault_words};
 ghost use Rattle.booklaw.specs.Laws.{EveryListIsLawful, RowsStayWhileOut};
 
-use ring::{Cut, Refusal};
+use ring::{Cut, Figures, Refusal};
 use std::alloc::AllocError;
+use std::error::Error;
+use std::fmt;
 
 /// Which drawing a book holds.
 #[derive(Clone, Copy, PartialEq, Eq, Debug)]
@@ -28,26 +31,20 @@ impl Drawing {
     pub fn is_open(self) -> bool
         ensures { result ≡ is_open self }
     {
-        match self {
-            Drawing::Open => true,
-            Drawing::ByRule => false,
-            Drawing::BestLink(_) => false,
-        }
+        matches!(self, Drawing::Open)
     }
 }
 
-/// The card of a plan: its slot count, the load of each link (link e's at place e - 1, and 0 past the ring), the heaviest cut of its demands, and the lower
-/// bound, which no plan for them goes below.
+/// The card of a plan: its figures, the heaviest cut of its demands, and the lower bound, which no plan for them goes below.
 #[derive(Clone, Copy, PartialEq, Eq, Debug)]
 pub struct Card {
-    pub slots: u16,
-    pub loads: [u16; 16],
+    pub figures: Figures,
     pub cut: Cut,
     pub lower_bound: u16,
 }
 
 /// Why a book cannot be started.
-#[derive(Clone, Copy, Debug)]
+#[derive(Clone, Copy, PartialEq, Eq, Debug)]
 pub enum StartFault {
     /// There is no memory for it. No later call needs any.
     Memory,
@@ -63,8 +60,21 @@ impl From<AllocError> for StartFault {
     }
 }
 
+impl fmt::Display for StartFault {
+    ghost output = { λ fault. Some (fault_words fault) };
+
+    fn fmt<W: fmt::Write>(&self, f: &mut fmt::Formatter<W>) -> fmt::Result {
+        match self {
+            StartFault::Memory => write!(f, "no memory"),
+            StartFault::Refused(_) => write!(f, "no such ring"),
+        }
+    }
+}
+
+impl Error for StartFault {}
+
 /// Where a slip stands.
-#[derive(Clone, Copy)]
+#[derive(Clone, Copy, PartialEq, Eq, Debug)]
 pub enum Stage {
     /// Issued, and not read yet.
     Unread,
@@ -83,9 +93,7 @@ pub struct SlipCounts {
 }
 
 /// The law over every list of calls on a fresh book, and that rows stay the same while a slip is out.
-pub fn every_list_is_lawful() -> u8
+pub fn every_list_is_lawful()
     ensures law { EveryListIsLawful }
     ensures rows { RowsStayWhileOut }
-{
-    0
-}
+{}

@@ -4,19 +4,19 @@ use Rattle.refusals.specs.declared.Refusal.{Refusal}
 use Rattle.ring.specs.Ring.{WithinLimits}
 use Rattle.ring.specs.declared.Demand.{Demand}
 use Rattle.ring.specs.declared.Row.{Row}
-use Rattle.checklines.specs.Faults.{or_else}
+use Rattle.std.specs.Option.{option_or}
 use Rattle.checklines.specs.Lines.{lines_fault}
 use Rattle.checklines.proofs.Walk.{or_none}
 use Rattle.checklines.proofs.LinesPass.{lines_limits}
 use Rattle.checkrows.specs.Rows.{rows_fault, counts_fault}
 use Rattle.checker.specs.Verdicts.{ring_fault, sheet_fault, figures, unless, verdict}
 use Rattle.checker.specs.Claims.{Answered}
-use Rattle.checker.specs.declared.Verdict.{Verdict}
+use Rattle.ring.specs.declared.Figures.{Figures}
 use Rattle.checker.proofs.Passing.{none_ring, none_sheet, passes, passes_exactly, unless_pass, unless_stop}
 use Rattle.checker.proofs.Numbers.{has_figures, rows_1024}
 use Rattle.checker.proofs.Collisions.{names_collision}
 
-pub answered : (n : ℕ) (lines : List Demand) (rows : List Row) (m : ℕ) (r : Result Verdict Refusal) → r ≡ verdict n lines rows m → Answered n lines rows m r
+pub answered : (n : ℕ) (lines : List Demand) (rows : List Row) (m : ℕ) (r : Result Figures Refusal) → r ≡ verdict n lines rows m → Answered n lines rows m r
 answered n lines rows m r e =
     subst (λ r. Answered n lines rows m r) (sym e)
     (record { answer = refl; passes = passes n lines rows m; exactly = passes_exactly n lines rows m; figures = has_figures n lines rows m; collision = names_collision n lines rows m })
@@ -25,9 +25,9 @@ answered n lines rows m r e =
 module _ (n : ℕ) (lines : List Demand) (rows : List Row) (m : ℕ) where
   -- of what comes before the rows
   abbrev pub Given : Option Refusal
-  Given = or_else (ring_fault n) (or_else (sheet_fault m) (lines_fault n lines))
+  Given = option_or (ring_fault n) (option_or (sheet_fault m) (lines_fault n lines))
 
-  unless_first : (o p q : Option Refusal) (r : Result Verdict Refusal) → unless o (unless p (unless q r)) ≡ unless (or_else o (or_else p q)) r
+  unless_first : (o p q : Option Refusal) (r : Result Figures Refusal) → unless o (unless p (unless q r)) ≡ unless (option_or o (option_or p q)) r
   unless_first (Some f) p q r = refl
   unless_first None (Some f) q r = refl
   unless_first None None q r = refl
@@ -60,7 +60,7 @@ module _ (n : ℕ) (lines : List Demand) (rows : List Row) (m : ℕ) where
         pub few : length rows ≤ 1024
         few = rows_1024 n lines rows limits g k
 
-        pub all_pass : (v : Verdict) → v ≡ figures n lines rows → Answered n lines rows m (Ok v)
+        pub all_pass : (v : Figures) → v ≡ figures n lines rows → Answered n lines rows m (Ok v)
         all_pass v e =
             answered n lines rows m (Ok v)
             (ap (λ v. Ok v) e ∙ sym (by_given ∙ unless_pass Given _ h ∙ unless_pass (rows_fault n lines rows) _ g ∙ unless_pass (counts_fault lines rows) _ k))

@@ -2,11 +2,13 @@
 use Rattle.std.proofs.Common.{◌≡◌, ℕ, zero, suc, ◌+◌, ◌-◌, ◌<◌, Bool, true, false, cond, not, ◌&&◌, ◌||◌, eqb, ltb, leb, ◌⊎◌, List, [], ◌∷◌, ◌++◌, length, get_or, take, Some, None, Ok, Err, Option, Result, sym, refl, ap, ◌∙◌, subst, inl, inr, ⊎_elim, arith}
 use Rattle.std.specs.List.{prefix_len}
 use Rattle.std.proofs.lemmas.List.{append_assoc, append-nil, get_or-take, length-take-le}
+use Rattle.std.proofs.lemmas.List.Sums.{prefix_len_passes, prefix_len_stops}
 use Rattle.std.proofs.ByRecursion.{All-get_or}
 use Rattle.std.proofs.lemmas.Bool.{not-false, not-true, ltb-true, both_ways, true≢false}
 use Rattle.ring.specs.Sums.{sum_of}
 use Rattle.ring.specs.Ring.{row_over, named, Apart}
-use Rattle.checklines.specs.Faults.{or_else, first_fault, from_to}
+use Rattle.std.specs.Option.{option_or}
+use Rattle.checklines.specs.Faults.{first_fault, from_to}
 use Rattle.checkrows.specs.Rows.{like_first, clash, earliest, form_fault, collision_fault, row_fault, rows_fault, is_full, counts_fault}
 use Rattle.checklines.specs.Lines.{line_fault, lines_fault}
 use Rattle.checker.specs.Verdicts.{ring_fault, sheet_fault, figures, unless, verdict}
@@ -14,7 +16,7 @@ use Rattle.checkrows.specs.Rows.{row_at}
 use Rattle.checker.specs.Claims.{FirstCollision, NamesCollision}
 use Rattle.ring.specs.declared.Demand.{Demand}
 use Rattle.ring.specs.declared.Row.{Row}
-use Rattle.checker.specs.declared.Verdict.{Verdict}
+use Rattle.ring.specs.declared.Figures.{Figures}
 use Rattle.refusals.specs.Refusals.{refusal_number}
 use Rattle.refusals.specs.declared.Refusal.{Refusal}
 use Rattle.refusals.specs.declared.Refusal.TheVariants.{RingSize, TooFew, BookFull, EndOutside, EndsFalling, UnitsOutside, NumberTaken, UnitsPast, DemandUnknown, SlotOutside, SideWrong, Collision, CountWrong}
@@ -31,7 +33,7 @@ other_cond : (b : Bool) (f : Refusal) (g : Option Refusal) → is_collision f �
 other_cond true f g h k = of h
 other_cond false f g h k = k
 
-other_or : (o g : Option Refusal) → Other o → Other g → Other (or_else o g)
+other_or : (o g : Option Refusal) → Other o → Other g → Other (option_or o g)
 other_or (Some f) g h k = h
 other_or None g h k = k
 
@@ -55,7 +57,7 @@ not_other : (o : Option Refusal) (row met : ℕ) → Other o → o ≡ Some (Col
 not_other o row met no_fault e = let z : ◌≡◌ {A = ℕ} 0 1 = cc in omega arith
 not_other o row met (of {f} h) e = let z : f ≡ Collision row met = cc in not_collision f row met h z
 
-unless_err : (o : Option Refusal) (r : Result Verdict Refusal) (f : Refusal) → unless o r ≡ Err f → (o ≡ Some f) ⊎ (r ≡ Err f)
+unless_err : (o : Option Refusal) (r : Result Figures Refusal) (f : Refusal) → unless o r ≡ Err f → (o ≡ Some f) ⊎ (r ≡ Err f)
 unless_err (Some g) r f h = inl cc
 unless_err None r f h = inr h
 
@@ -70,7 +72,7 @@ collision_of n lines rows m row met h =
     go (counts_fault lines rows) (Ok (figures n lines rows)) (other_cond (ltb (prefix_len (is_full rows) lines) (length lines)) (CountWrong (prefix_len (is_full rows) lines + 1)) None refl no_fault) (λ e. absurd (let z : ◌≡◌ {A = ℕ} 0 1 = cc in omega arith)) d)
     (unless_err (rows_fault n lines rows) _ (Collision row met) c)) b) a) h
   where
-    go : (o : Option Refusal) (r : Result Verdict Refusal) → Other o → (r ≡ Err (Collision row met) → rows_fault n lines rows ≡ Some (Collision row met)) → unless o r ≡ Err (Collision row met) → rows_fault n lines rows ≡ Some (Collision row met)
+    go : (o : Option Refusal) (r : Result Figures Refusal) → Other o → (r ≡ Err (Collision row met) → rows_fault n lines rows ≡ Some (Collision row met)) → unless o r ≡ Err (Collision row met) → rows_fault n lines rows ≡ Some (Collision row met)
     go o r k f e = ⊎_elim (λ (x : o ≡ Some (Collision row met)). absurd (not_other o row met k x)) f (unless_err o r (Collision row met) e)
 
 -- where the first fault stands
@@ -85,7 +87,7 @@ first_at {X} fault d before (x ∷ xs) f h = go (fault before x) refl h (first_a
     Place : Type 0
     Place = (i : ℕ) × (i < length (x ∷ xs)) × (At i ≡ Some f) × ((j : ℕ) → j < i → At j ≡ None)
 
-    go : (o : Option Refusal) → fault before x ≡ o → or_else o (first_fault fault (before ++ x ∷ []) xs) ≡ Some f →
+    go : (o : Option Refusal) → fault before x ≡ o → option_or o (first_fault fault (before ++ x ∷ []) xs) ≡ Some f →
         (first_fault fault (before ++ x ∷ []) xs ≡ Some f → (i : ℕ) × (i < length xs) × (fault ((before ++ x ∷ []) ++ take i xs) (get_or xs i d) ≡ Some f) × ((j : ℕ) → j < i → fault ((before ++ x ∷ []) ++ take j xs) (get_or xs j d) ≡ None)) → Place
     go (Some g) e k ih = (0, omega arith, ap (λ b. fault b x) (append-nil before) ∙ e ∙ k, (λ j l. absurd (omega arith)))
     go None e k ih =
@@ -95,28 +97,6 @@ first_at {X} fault d before (x ∷ xs) f h = go (fault before x) refl h (first_a
         before' : (i : ℕ) → ((j : ℕ) → j < i → fault ((before ++ x ∷ []) ++ take j xs) (get_or xs j d) ≡ None) → (j : ℕ) → j < suc i → At j ≡ None
         before' i h zero l = ap (λ b. fault b x) (append-nil before) ∙ e
         before' i h (suc j) l = ap (λ b. fault b (get_or xs j d)) (sym (append_assoc before (x ∷ []) (take j xs))) ∙ h j (omega arith)
-
--- where the longest front ends
-pub leading_ends : {X : Type 0} (p : X → Bool) (xs : List X) (d : X) → prefix_len p xs < length xs → p (get_or xs (prefix_len p xs) d) ≡ false
-leading_ends p [] d h = absurd (omega arith)
-leading_ends p (x ∷ xs) d h = go (p x) refl h (leading_ends p xs d)
-  where
-    go : (b : Bool) → p x ≡ b → cond b (1 + prefix_len p xs) 0 < suc (length xs) → (prefix_len p xs < length xs → p (get_or xs (prefix_len p xs) d) ≡ false) → p (get_or (x ∷ xs) (cond b (1 + prefix_len p xs) 0) d) ≡ false
-    go true e l ih = let s : 1 + prefix_len p xs ≡ suc (prefix_len p xs) = omega arith in ap (λ k. p (get_or (x ∷ xs) k d)) s ∙ ih (omega arith)
-    go false e l ih = e
-
-pub leading_front : {X : Type 0} (p : X → Bool) (xs : List X) (d : X) (k : ℕ) → k < prefix_len p xs → p (get_or xs k d) ≡ true
-leading_front p [] d k h = absurd (omega arith)
-leading_front p (x ∷ xs) d zero h = go (p x) refl h
-  where
-    go : (b : Bool) → p x ≡ b → 0 < cond b (1 + prefix_len p xs) 0 → p x ≡ true
-    go true e l = e
-    go false e l = absurd (omega arith)
-leading_front p (x ∷ xs) d (suc k) h = go (p x) h (leading_front p xs d k)
-  where
-    go : (b : Bool) → suc k < cond b (1 + prefix_len p xs) 0 → (k < prefix_len p xs → p (get_or xs k d) ≡ true) → p (get_or xs k d) ≡ true
-    go true l ih = ih (omega arith)
-    go false l ih = absurd (omega arith)
 
 -- a row's fault is a collision
 row_collision : (n : ℕ) (lines : List Demand) (b : List Row) (r : Row) (row met : ℕ) → row_fault n lines b r ≡ Some (Collision row met) →
@@ -129,7 +109,7 @@ row_collision n lines b r row met h = last (ltb (earliest n lines b r) (length b
         (other_cond (not (from_to 1 1024 r.slot)) (SlotOutside (length b + 1)) _ refl
         (other_cond (not (leb r.side 1 && like_first r.demand r.side b)) (SideWrong (length b + 1)) None refl no_fault))
 
-    other_fault : (o g : Option Refusal) → Other o → or_else o g ≡ Some (Collision row met) → g ≡ Some (Collision row met)
+    other_fault : (o g : Option Refusal) → Other o → option_or o g ≡ Some (Collision row met) → g ≡ Some (Collision row met)
     other_fault (Some f) g k e = absurd (not_other (Some f) row met k e)
     other_fault None g k e = e
 
@@ -145,8 +125,8 @@ first_collision n lines rows i l before e =
     record {
       earlier = e;
       given = l;
-      collide = let c = clash_link n lines r q (not-false _ (ap (λ q. not (clash n lines r q)) (sym at) ∙ leading_ends test (take i rows) none (omega (arith, length-take-le i rows (omega arith))))) in (sym c.0, c.1);
-      first_met = λ b h c. both_ways (clash n lines r (row_at rows b)) (not-true _ (ap (λ q. not (clash n lines r q)) (sym (get_or-take i rows b none (omega arith))) ∙ leading_front test (take i rows) none b h)) (link_clash n lines r (row_at rows b) c.1.0 (sym c.0) c.1.1 c.1.2 c.1.3);
+      collide = let c = clash_link n lines r q (not-false _ (ap (λ q. not (clash n lines r q)) (sym at) ∙ prefix_len_stops test (take i rows) none (omega (arith, length-take-le i rows (omega arith))))) in (sym c.0, c.1);
+      first_met = λ b h c. both_ways (clash n lines r (row_at rows b)) (not-true _ (ap (λ q. not (clash n lines r q)) (sym (get_or-take i rows b none (omega arith))) ∙ prefix_len_passes test (take i rows) b none h)) (link_clash n lines r (row_at rows b) c.1.0 (sym c.0) c.1.1 c.1.2 c.1.3);
       none_before = λ a b h k c.
           All-get_or (λ (q : Row). Apart n lines q (row_at rows a)) (take a rows) b none (omega (arith, length-take-le a rows (omega arith))) (row_fine n lines (take a rows) (row_at rows a) (before a k)).apart
           (c.0 ∙ ap (λ (q : Row). q.slot) (sym (get_or-take a rows b none h))) c.1.0 c.1.1 (ap (λ q. row_over lines q c.1.0) (get_or-take a rows b none h) ∙ c.1.3) c.1.2;

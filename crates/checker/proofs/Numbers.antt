@@ -11,15 +11,15 @@ use Rattle.ring.specs.Ring.{row_over, named, load, has, slots, slot_count, units
 use Rattle.checkrows.specs.Rows.{rows_fault, counts_fault}
 use Rattle.checklines.specs.Lines.{lines_fault}
 use Rattle.checker.specs.Verdicts.{ring_fault, sheet_fault, figures, unless, verdict}
-use Rattle.checker.specs.Claims.{Figures, HasFigures}
+use Rattle.checker.specs.Claims.{FiguresOf, HasFigures}
 use Rattle.ring.specs.declared.Demand.{Demand}
 use Rattle.ring.specs.declared.Row.{Row}
-use Rattle.checker.specs.declared.Verdict.{Verdict}
+use Rattle.ring.specs.declared.Figures.{Figures}
 use Rattle.refusals.specs.declared.Refusal.{Refusal}
 use Rattle.checkrows.proofs.RowsPass.{rows_known, counts_full}
 use Rattle.checker.proofs.Passing.{none_ring}
 
-made_unless : (o : Option Refusal) (r : Result Verdict Refusal) (P : Verdict → Type 0) → (o ≡ None → IfOk r P) → IfOk (unless o r) P
+made_unless : (o : Option Refusal) (r : Result Figures Refusal) (P : Figures → Type 0) → (o ≡ None → IfOk r P) → IfOk (unless o r) P
 made_unless (Some f) r P h = tt
 made_unless None r P h = h refl
 
@@ -36,8 +36,8 @@ pub has_figures : (n : ℕ) (lines : List Demand) (rows : List Row) (m : ℕ) �
 has_figures n lines rows m =
     made_unless (ring_fault n) _ F (λ h. made_unless (sheet_fault m) _ F (λ _. made_unless (lines_fault n lines) _ F (λ _. made_unless (rows_fault n lines rows) _ F (λ _. made_unless (counts_fault lines rows) _ F (λ _. here (none_ring n h).1)))))
   where
-    F : Verdict → Type 0
-    F = Figures n lines rows
+    F : Figures → Type 0
+    F = FiguresOf n lines rows
 
     g : ℕ → ℕ
     g = load lines rows
@@ -47,7 +47,7 @@ has_figures n lines rows m =
         ⊎_elim (λ (k : e < 17). figure_at n g e (omega arith) (omega arith) ∙ cond-false (leb e n) (g e) 0 (lt-leb e n l))
         (λ (k : 17 ≤ e). figures_end n g e (omega arith)) (cases_lt e 17)
 
-    here : n ≤ 16 → Figures n lines rows (figures n lines rows)
+    here : n ≤ 16 → FiguresOf n lines rows (figures n lines rows)
     here h =
         record {
           slots = refl;

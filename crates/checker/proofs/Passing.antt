@@ -10,20 +10,20 @@ use Rattle.checker.specs.Verdicts.{ring_fault, sheet_fault, figures, unless, ver
 use Rattle.checker.specs.Claims.{PassesPlans, Good, PassesExactly}
 use Rattle.ring.specs.declared.Demand.{Demand}
 use Rattle.ring.specs.declared.Row.{Row}
-use Rattle.checker.specs.declared.Verdict.{Verdict}
+use Rattle.ring.specs.declared.Figures.{Figures}
 use Rattle.refusals.specs.declared.Refusal.{Refusal}
 use Rattle.checklines.proofs.Walk.{passed, pass}
 use Rattle.checklines.proofs.LinesPass.{lines_limits, limits_lines}
 use Rattle.checkrows.proofs.RowsPass.{passed_plan, rows_on_sheet, plan_rows, full_counts}
 
-unless_ok : (o : Option Refusal) (r : Result Verdict Refusal) → is_ok (unless o r) ≡ true → (o ≡ None) × (is_ok r ≡ true)
+unless_ok : (o : Option Refusal) (r : Result Figures Refusal) → is_ok (unless o r) ≡ true → (o ≡ None) × (is_ok r ≡ true)
 unless_ok (Some f) r h = absurd (false≢true h)
 unless_ok None r h = (refl, h)
 
-pub unless_pass : (o : Option Refusal) (r : Result Verdict Refusal) → o ≡ None → unless o r ≡ r
+pub unless_pass : (o : Option Refusal) (r : Result Figures Refusal) → o ≡ None → unless o r ≡ r
 unless_pass o r h = ap (λ x. unless x r) h
 
-pub unless_stop : (o : Option Refusal) (r : Result Verdict Refusal) (f : Refusal) → o ≡ Some f → unless o r ≡ Err f
+pub unless_stop : (o : Option Refusal) (r : Result Figures Refusal) (f : Refusal) → o ≡ Some f → unless o r ≡ Err f
 unless_stop o r f h = ap (λ x. unless x r) h
 
 pub ring_none : (n : ℕ) → 3 ≤ n → n ≤ 16 → ring_fault n ≡ None

@@ -7,12 +7,12 @@ use Rattle.ring.specs.declared.Demand.{Demand}
 use Rattle.ring.specs.declared.Row.{Row}
 use Rattle.checkrows.specs.Rows.{OnSheet, row_at}
 use Rattle.checker.specs.Verdicts.{verdict}
-use Rattle.checker.specs.declared.Verdict.{Verdict}
+use Rattle.ring.specs.declared.Figures.{Figures}
 
 -- ---- exactly the plans
 -- for a ring and lines within the limits and a sheet of 1,024 marks or more, it passes if and only if the rows are a plan for the lines with
 -- slots 1 to 1,024
-abbrev pub PassesPlans : ℕ → List Demand → List Row → ℕ → Result Verdict Refusal → Type 0
+abbrev pub PassesPlans : ℕ → List Demand → List Row → ℕ → Result Figures Refusal → Type 0
 PassesPlans n lines rows marks r = 1024 ≤ marks → WithinLimits n lines → Decides (is_ok r) (Plan n lines rows × OnSheet rows)
 
 -- all that has to hold for it to pass
@@ -23,19 +23,19 @@ pub record Good (n : ℕ) (lines : List Demand) (rows : List Row) (marks : ℕ) 
   pub on_sheet : OnSheet rows
 
 -- it passes if and only if all of this holds, whatever it is given
-abbrev pub PassesExactly : ℕ → List Demand → List Row → ℕ → Result Verdict Refusal → Type 0
+abbrev pub PassesExactly : ℕ → List Demand → List Row → ℕ → Result Figures Refusal → Type 0
 PassesExactly n lines rows marks r = Decides (is_ok r) (Good n lines rows marks)
 
 -- ---- the figures
 -- they are those of the rows
-pub record Figures (n : ℕ) (lines : List Demand) (rows : List Row) (v : Verdict) : Type 0 where
+pub record FiguresOf (n : ℕ) (lines : List Demand) (rows : List Row) (v : Figures) : Type 0 where
   pub slots : v.slots ≡ slot_count rows
   pub loads : (e : ℕ) → Link n e → slice_index v.loads (e - 1) ≡ load lines rows e
   pub past : (e : ℕ) → n < e → slice_index v.loads (e - 1) ≡ 0
 
 -- where it passes, it has the figures of the rows
-abbrev pub HasFigures : ℕ → List Demand → List Row → Result Verdict Refusal → Type 0
-HasFigures n lines rows r = IfOk r (Figures n lines rows)
+abbrev pub HasFigures : ℕ → List Demand → List Row → Result Figures Refusal → Type 0
+HasFigures n lines rows r = IfOk r (FiguresOf n lines rows)
 
 -- ---- collisions
 -- two rows have one slot and share a link
@@ -51,11 +51,11 @@ pub record FirstCollision (n : ℕ) (lines : List Demand) (rows : List Row) (i j
   pub none_before : (a b : ℕ) → b < a → a < i → Collide n lines (row_at rows a) (row_at rows b) → ⊥
 
 -- where the refusal is a collision, it names the first one; the refusal names rows from 1
-abbrev pub NamesCollision : ℕ → List Demand → List Row → Result Verdict Refusal → Type 0
+abbrev pub NamesCollision : ℕ → List Demand → List Row → Result Figures Refusal → Type 0
 NamesCollision n lines rows r = (row met : ℕ) → r ≡ Err (Collision row met) → (1 ≤ row) × (1 ≤ met) × FirstCollision n lines rows (row - 1) (met - 1)
 
 -- ---- all of this together, of an answer r that is the verdict
-pub record Answered (n : ℕ) (lines : List Demand) (rows : List Row) (marks : ℕ) (r : Result Verdict Refusal) : Type 0 where
+pub record Answered (n : ℕ) (lines : List Demand) (rows : List Row) (marks : ℕ) (r : Result Figures Refusal) : Type 0 where
   pub answer : r ≡ verdict n lines rows marks
   pub passes : PassesPlans n lines rows marks r
   pub exactly : PassesExactly n lines rows marks r

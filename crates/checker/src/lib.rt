@@ -5,30 +5,24 @@ mod figures;
 
 ghost use Rattle.std.specs.Prelude.{◌≡◌, length};
 ghost use Rattle.sheet.specs.Marks.{Blank};
-ghost use Rattle.checklines.specs.Faults.{or_else, Tells};
+ghost use Rattle.std.specs.Option.{option_or};
+ghost use Rattle.checklines.specs.Faults.{Tells};
 ghost use Rattle.checklines.specs.Lines.{lines_fault};
 ghost use Rattle.checker.specs.Verdicts.{ring_fault, sheet_fault, verdict};
 ghost use Rattle.checker.specs.Claims.{PassesPlans, PassesExactly, HasFigures, NamesCollision, Answered, VerdictMeans};
 
-use checklines::{check_lines, is_from_to};
+use checklines::check_lines;
 use checkrows::counts::check_counts;
 use checkrows::rows::check_rows;
 use figures::figures_of;
-use ring::{Demand, Refusal, Row};
+use ring::{Demand, Figures, Refusal, Row};
 use sheet::{Guard, blank};
-
-/// What the checker says of a plan: the number of slots in use, and the load of each link, link e's at place e - 1, and 0 past link n.
-#[derive(Clone, Copy, PartialEq, Eq, Debug)]
-pub struct Verdict {
-    pub slots: u16,
-    pub loads: [u16; 16],
-}
 
 /// Checks the ring size, the length of the sheet and the demand lines.
 fn check_given(n: u8, lines: &[Demand], marks: usize) -> Result<(), Refusal>
-    ensures { Tells result (or_else (ring_fault n) (or_else (sheet_fault marks) (lines_fault n lines.now))) }
+    ensures { Tells result (option_or (ring_fault n) (option_or (sheet_fault marks) (lines_fault n lines.now))) }
 {
-    if !is_from_to(3, 16, u16::from(n)) {
+    if !(3..=16).contains(&n) {
         return Err(Refusal::RingSize);
     }
     if marks < 1024 {
@@ -37,8 +31,9 @@ fn check_given(n: u8, lines: &[Demand], marks: usize) -> Result<(), Refusal>
     check_lines(n, lines)
 }
 
+// Kept: size, lines, rows and sheet are four parameters, as the call from outside has them; nothing is known of them before they are checked.
 /// The whole check on bare marks, which it leaves as they come.
-fn check_on(n: u8, lines: &[Demand], rows: &[Row], marks: &mut [u16]) -> Result<Verdict, Refusal>
+fn check_on(n: u8, lines: &[Demand], rows: &[Row], marks: &mut [u16]) -> Result<Figures, Refusal>
     ensures { Answered n lines.now rows.now (length marks.old) result }
 {
     check_given(n, lines, marks.len())?;
@@ -50,7 +45,7 @@ fn check_on(n: u8, lines: &[Demand], rows: &[Row], marks: &mut [u16]) -> Result<
 
 /// Checks a plan from elsewhere. It passes, with its slot count and loads, or the first cause against it is given; docs/CHECKER.md has the order.
 /// The sheet of at least 1,024 marks is blank in full length on every way out, whatever it held.
-pub fn check(n: u8, lines: &[Demand], rows: &[Row], sheet: &mut [u16]) -> Result<Verdict, Refusal>
+pub fn check(n: u8, lines: &[Demand], rows: &[Row], sheet: &mut [u16]) -> Result<Figures, Refusal>
     ensures answer { result ≡ verdict n lines.now rows.now (length sheet.old) }
     ensures blank { Blank sheet.new (length sheet.old) }
     ensures passes { PassesPlans n lines.now rows.now (length sheet.old) result }
@@ -63,8 +58,6 @@ pub fn check(n: u8, lines: &[Demand], rows: &[Row], sheet: &mut [u16]) -> Result
 }
 
 /// What the verdict means, whatever it is given.
-pub fn verdict_means() -> u8
+pub fn verdict_means()
     ensures { VerdictMeans }
-{
-    0
-}
+{}

@@ -1,9 +1,10 @@
 //! What the checker answers on sample plans, and each refusal at its edge.
 
 use checker::check as check_plan;
-use ring::{Demand, Refusal, Row};
+use ring::{Demand, Figures, Refusal, Row};
 use std::test::Fail;
 
+// Kept: each crate of samples has such a function for its own tables; a shared one would be a public call of the library, with a contract and an edit, for tests alone.
 fn line(number: u16, lower: u8, upper: u8, units: u8) -> Demand {
     Demand {
         number,
@@ -19,9 +20,7 @@ fn row(demand: u16, side: u8, slot: u16) -> Row {
 
 /// Lines that are numbered from 1, each with as many units between the nodes 1 and 2.
 fn number_lines(lines: &mut [Demand], units: u8) {
-    let mut number: u16 = 0;
-    for place in lines.iter_mut() {
-        number = number.saturating_add(1);
+    for (place, number) in lines.iter_mut().zip(1..) {
         *place = line(number, 1, 2, units);
     }
 }
@@ -34,12 +33,7 @@ fn refusal(n: u8, lines: &[Demand], rows: &[Row]) -> Option<Refusal> {
 
 /// Whether no mark is on the sheet.
 fn is_blank(sheet: &[u16]) -> bool {
-    for mark in sheet {
-        if *mark != 0 {
-            return false;
-        }
-    }
-    true
+    sheet.iter().all(|mark| *mark == 0)
 }
 
 #[test]
@@ -47,13 +41,11 @@ fn a_plan_on_four_nodes(rt: HostRuntime) -> Result<(), Fail> {
     let lines = [line(1, 1, 3, 2), line(2, 2, 4, 1)];
     let rows = [row(1, 0, 1), row(1, 0, 2), row(2, 0, 3)];
     let mut sheet = [0u16; 1024];
-    let verdict = check_plan(4, &lines, &rows, &mut sheet)?;
-    assert_eq!(rt; verdict.slots, 3);
-    assert_eq!(rt; verdict.loads[0], 2);
-    assert_eq!(rt; verdict.loads[1], 3);
-    assert_eq!(rt; verdict.loads[2], 1);
-    assert_eq!(rt; verdict.loads[3], 0);
-    assert_eq!(rt; verdict.loads[15], 0, "no link 16");
+    let wanted = Figures {
+        slots: 3,
+        loads: [2, 3, 1, 0, 0, 0, 0, 0, 0, 0, 0, 0, 0, 0, 0, 0],
+    };
+    assert_eq!(rt; check_plan(4, &lines, &rows, &mut sheet)?, wanted);
     Ok(())
 }
 
@@ -74,9 +66,9 @@ fn the_last_row_of_the_plan_changed(rt: HostRuntime) {
         (row(1, 1, 3), Some(Refusal::SideWrong { row: 3 })),
         (row(1, 0, 3), Some(Refusal::CountWrong { line: 1 })),
     ];
-    for case in &cases {
-        let rows = [row(1, 0, 1), row(1, 0, 2), case.0];
-        assert_eq!(rt; refusal(4, &lines, &rows), case.1);
+    for (last, refused) in &cases {
+        let rows = [row(1, 0, 1), row(1, 0, 2), *last];
+        assert_eq!(rt; refusal(4, &lines, &rows), *refused);
     }
     let few = [row(1, 0, 1), row(1, 0, 2)];
     assert_eq!(rt;
@@ -111,8 +103,8 @@ fn a_line_at_the_limits(rt: HostRuntime) {
         (4, line(0, 3, 4, 48), Refusal::NumberTaken { place: 1 }),
         (4, line(65535, 3, 4, 48), passes),
     ];
-    for case in &cases {
-        assert_eq!(rt; refusal(case.0, &[case.1], &[]), Some(case.2));
+    for (n, line, refused) in &cases {
+        assert_eq!(rt; refusal(*n, &[*line], &[]), Some(*refused));
     }
 }
 
@@ -164,13 +156,16 @@ fn sheets_of_1023_and_1024_marks(rt: HostRuntime) {
 #[test]
 fn the_sheet_is_blank_on_every_way_out(rt: HostRuntime) {
     let lines = [line(1, 1, 3, 1), line(2, 2, 4, 1)];
-    let mut sheet = [0xffffu16; 1030];
-    assert!(rt; check_plan(4, &lines, &[row(1, 0, 1), row(2, 0, 2)], &mut sheet).is_ok());
-    assert!(rt; is_blank(&sheet), "after a pass");
-    sheet = [0xffffu16; 1030];
-    assert!(rt; check_plan(4, &lines, &[row(1, 0, 1), row(2, 0, 1)], &mut sheet).is_err());
-    assert!(rt; is_blank(&sheet), "after a collision");
-    sheet = [0xffffu16; 1030];
-    assert!(rt; check_plan(2, &lines, &[], &mut sheet).is_err());
-    assert!(rt; is_blank(&sheet), "after a wrong ring size");
+    let apart = [row(1, 0, 1), row(2, 0, 2)];
+    let meeting = [row(1, 0, 1), row(2, 0, 1)];
+    let cases = [
+        (4, &apart[..], true, "after a pass"),
+        (4, &meeting[..], false, "after a collision"),
+        (2, &[], false, "after a wrong ring size"),
+    ];
+    for (n, rows, passes, way) in &cases {
+        let mut sheet = [0xffffu16; 1030];
+        assert_eq!(rt; check_plan(*n, &lines, rows, &mut sheet).is_ok(), *passes);
+        assert!(rt; is_blank(&sheet), "{way}");
+    }
 }

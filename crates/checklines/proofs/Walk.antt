@@ -1,12 +1,13 @@
 -- Going through a list, each element with those before it.
-use Rattle.std.proofs.Common.{◌≡◌, ℕ, suc, ◌+◌, ◌-◌, ◌<◌, ◌≤◌, Bool, true, false, cond, ltb, List, [], ◌∷◌, ◌++◌, length, get_or, take, drop, Some, None, Option, sym, refl, ap, ◌∙◌, arith}
+use Rattle.std.proofs.Common.{◌≡◌, ℕ, suc, ◌+◌, ◌<◌, ◌≤◌, Bool, true, false, cond, ltb, List, [], ◌∷◌, ◌++◌, length, get_or, take, drop, Some, None, Option, sym, refl, ap, ◌∙◌, arith}
 use Rattle.std.specs.List.{prefix_len, AllByRecursion as Each}
 use Rattle.std.proofs.lemmas.List.{take_more, drop_more, drop_all}
-use Rattle.std.proofs.ByRecursion.{All-push}
+use Rattle.std.proofs.ByRecursion.{All-push, All-weaker}
 use Rattle.std.proofs.lemmas.Bool.{cond-false, or_parts}
 use Rattle.std.proofs.lemmas.Bool.Decides.{nat_tests}
 use Rattle.ring.specs.Sums.{some}
-use Rattle.checklines.specs.Faults.{or_else, first_fault}
+use Rattle.std.specs.Option.{option_or}
+use Rattle.checklines.specs.Faults.{first_fault}
 use Rattle.refusals.specs.declared.Refusal.{Refusal}
 
 -- P of each element and those before it
@@ -14,15 +15,15 @@ abbrev pub Walk : {X : Type 0} → (List X → X → Type 0) → List X → List
 Walk P before [] = Unit {0}
 Walk P before (x ∷ xs) = P before x × Walk P (before ++ x ∷ []) xs
 
-pub or_none : (o g : Option Refusal) → or_else o g ≡ None → (o ≡ None) × (g ≡ None)
+pub or_none : (o g : Option Refusal) → option_or o g ≡ None → (o ≡ None) × (g ≡ None)
 or_none (Some f) g h = absurd (let z : ◌≡◌ {A = ℕ} 0 1 = cc in omega arith)
 or_none None g h = (refl, h)
 
-pub or_pass : (o g : Option Refusal) → o ≡ None → or_else o g ≡ g
-or_pass o g h = ap (λ x. or_else x g) h
+pub or_pass : (o g : Option Refusal) → o ≡ None → option_or o g ≡ g
+or_pass o g h = ap (λ x. option_or x g) h
 
-pub or_stop : (o g : Option Refusal) (f : Refusal) → o ≡ Some f → or_else o g ≡ Some f
-or_stop o g f h = ap (λ x. or_else x g) h
+pub or_stop : (o g : Option Refusal) (f : Refusal) → o ≡ Some f → option_or o g ≡ Some f
+or_stop o g f h = ap (λ x. option_or x g) h
 
 -- a test of a chain
 pub passed : (b : Bool) (f : Refusal) (g : Option Refusal) → cond b (Some f) g ≡ None → (b ≡ false) × (g ≡ None)
@@ -53,30 +54,18 @@ pub walk_all : {X : Type 0} (P : X → Type 0) → (before xs : List X) → Walk
 walk_all P before [] w = tt
 walk_all P before (x ∷ xs) w = (w.0, walk_all P (before ++ x ∷ []) xs w.1)
 
-pub all_walk : {X : Type 0} (P : X → Type 0) → (before xs : List X) → Each P xs → Walk (λ _ x. P x) before xs
-all_walk P before [] w = tt
-all_walk P before (x ∷ xs) w = (w.0, all_walk P (before ++ x ∷ []) xs w.1)
-
 -- ---- what holds of an element and each one before it holds of an element and each one after it
 abbrev pub Pairs : {X : Type 0} → (X → X → Type 0) → List X → Type 0
 Pairs R [] = Unit {0}
 Pairs R (x ∷ xs) = Each (R x) xs × Pairs R xs
 
-all_end : {X : Type 0} (P : X → Type 0) (xs : List X) (y : X) → Each P (xs ++ y ∷ []) → Each P xs × P y
-all_end P [] y a = (tt, a.0)
-all_end P (x ∷ xs) y a = let r = all_end P xs y a.1 in ((a.0, r.0), r.1)
+pub all_split : {X : Type 0} (P : X → Type 0) (xs ys : List X) → Each P (xs ++ ys) → Each P xs × Each P ys
+all_split P [] ys a = (tt, a)
+all_split P (x ∷ xs) ys a = let r = all_split P xs ys a.1 in ((a.0, r.0), r.1)
 
 all_zip : {X : Type 0} (P Q : X → Type 0) (xs : List X) → Each P xs → Each Q xs → Each (λ x. P x × Q x) xs
 all_zip P Q [] a b = tt
 all_zip P Q (x ∷ xs) a b = ((a.0, b.0), all_zip P Q xs a.1 b.1)
-
-all_left : {X : Type 0} (P Q : X → Type 0) (xs : List X) → Each (λ x. P x × Q x) xs → Each P xs
-all_left P Q [] a = tt
-all_left P Q (x ∷ xs) a = (a.0.0, all_left P Q xs a.1)
-
-all_right : {X : Type 0} (P Q : X → Type 0) (xs : List X) → Each (λ x. P x × Q x) xs → Each Q xs
-all_right P Q [] a = tt
-all_right P Q (x ∷ xs) a = (a.0.1, all_right P Q xs a.1)
 
 all_none : {X : Type 0} (R : X → X → Type 0) (before : List X) → Each (λ q. Each (R q) []) before
 all_none R [] = tt
@@ -86,22 +75,22 @@ pub walk_pairs : {X : Type 0} (R : X → X → Type 0) (before xs : List X) → 
 walk_pairs R before [] w = (all_none R before, tt)
 walk_pairs R before (x ∷ xs) w =
     let ih = walk_pairs R (before ++ x ∷ []) xs w.1 in
-    let e = all_end (λ q. Each (R q) xs) before x ih.0 in
-    (all_zip (λ q. R q x) (λ q. Each (R q) xs) before w.0 e.0, (e.1, ih.1))
+    let e = all_split (λ q. Each (R q) xs) before (x ∷ []) ih.0 in
+    (all_zip (λ q. R q x) (λ q. Each (R q) xs) before w.0 e.0, (e.1.0, ih.1))
 
 pub pairs_walk : {X : Type 0} (R : X → X → Type 0) (before xs : List X) → Each (λ q. Each (R q) xs) before → Pairs R xs → Walk (λ b x. Each (λ q. R q x) b) before xs
 pairs_walk R before [] a p = tt
 pairs_walk R before (x ∷ xs) a p = (
-  all_left (λ q. R q x) (λ q. Each (R q) xs) before a,
-  pairs_walk R (before ++ x ∷ []) xs (All-push (λ q. Each (R q) xs) before x (all_right (λ q. R q x) (λ q. Each (R q) xs) before a) p.0) p.1,
+  All-weaker (λ q. R q x × Each (R q) xs) (λ q. R q x) (λ q h. h.0) before a,
+  pairs_walk R (before ++ x ∷ []) xs (All-push (λ q. Each (R q) xs) before x (All-weaker (λ q. R q x × Each (R q) xs) (λ q. Each (R q) xs) (λ q h. h.1) before a) p.0) p.1,
 )
 
 -- ---- one step of a loop
 pub fault_step : {X : Type 0} (fault : List X → X → Option Refusal) (xs : List X) (i : ℕ) (d : X) → i < length xs →
-    first_fault fault (take i xs) (drop i xs) ≡ or_else (fault (take i xs) (get_or xs i d)) (first_fault fault (take (i + 1) xs) (drop (i + 1) xs))
+    first_fault fault (take i xs) (drop i xs) ≡ option_or (fault (take i xs) (get_or xs i d)) (first_fault fault (take (i + 1) xs) (drop (i + 1) xs))
 fault_step fault xs i d h =
     ap (first_fault fault (take i xs)) (drop_more xs i d h)
-    ∙ ap (λ b. or_else (fault (take i xs) (get_or xs i d)) (first_fault fault b (drop (i + 1) xs))) (sym (take_more xs i d h))
+    ∙ ap (λ b. option_or (fault (take i xs) (get_or xs i d)) (first_fault fault b (drop (i + 1) xs))) (sym (take_more xs i d h))
 
 -- ---- the longest front that passes
 pub leading_all : {X : Type 0} (p : X → Bool) (xs : List X) → ltb (prefix_len p xs) (length xs) ≡ false → Each (λ x. p x ≡ true) xs
@@ -123,18 +112,14 @@ pub none_passes : {X : Type 0} (p : X → Bool) (xs : List X) → some p xs ≡ 
 none_passes p [] h = tt
 none_passes p (x ∷ xs) h = let e = or_parts (p x) (some p xs) h in (e.0, none_passes p xs e.1)
 
--- a loop that looks for the first fault: it stops, goes on, or ends. `take (i - 0)` is `&xs[0..i]`
+-- a loop that looks for the first fault: it stops, goes on, or ends
 pub fault_stops : {X : Type 0} (fault : List X → X → Option Refusal) (xs : List X) (i : ℕ) (d : X) (all : Option Refusal) (f : Refusal) → i < length xs →
-    first_fault fault (take i xs) (drop i xs) ≡ all → fault (take (i - 0) xs) (get_or xs i d) ≡ Some f → all ≡ Some f
-fault_stops fault xs i d all f l h e =
-    let s : i - 0 ≡ i = omega arith in
-    sym h ∙ fault_step fault xs i d l ∙ or_stop (fault (take i xs) (get_or xs i d)) _ f (ap (λ k. fault (take k xs) (get_or xs i d)) (sym s) ∙ e)
+    first_fault fault (take i xs) (drop i xs) ≡ all → fault (take i xs) (get_or xs i d) ≡ Some f → all ≡ Some f
+fault_stops fault xs i d all f l h e = sym h ∙ fault_step fault xs i d l ∙ or_stop (fault (take i xs) (get_or xs i d)) _ f e
 
 pub fault_goes : {X : Type 0} (fault : List X → X → Option Refusal) (xs : List X) (i : ℕ) (d : X) (all : Option Refusal) → i < length xs →
-    first_fault fault (take i xs) (drop i xs) ≡ all → fault (take (i - 0) xs) (get_or xs i d) ≡ None → first_fault fault (take (i + 1) xs) (drop (i + 1) xs) ≡ all
-fault_goes fault xs i d all l h e =
-    let s : i - 0 ≡ i = omega arith in
-    sym (or_pass (fault (take i xs) (get_or xs i d)) _ (ap (λ k. fault (take k xs) (get_or xs i d)) (sym s) ∙ e)) ∙ sym (fault_step fault xs i d l) ∙ h
+    first_fault fault (take i xs) (drop i xs) ≡ all → fault (take i xs) (get_or xs i d) ≡ None → first_fault fault (take (i + 1) xs) (drop (i + 1) xs) ≡ all
+fault_goes fault xs i d all l h e = sym (or_pass (fault (take i xs) (get_or xs i d)) _ e) ∙ sym (fault_step fault xs i d l) ∙ h
 
 pub fault_ends : {X : Type 0} (fault : List X → X → Option Refusal) (xs : List X) (i : ℕ) (all : Option Refusal) → length xs ≤ i → first_fault fault (take i xs) (drop i xs) ≡ all → all ≡ None
 fault_ends fault xs i all l h = sym h ∙ ap (first_fault fault (take i xs)) (drop_all i xs l)

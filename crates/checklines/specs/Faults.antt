@@ -1,16 +1,12 @@
 -- The first fault of a list that is gone through in order.
 use Rattle.std.specs.Prelude.{◌≡◌, ℕ, Bool, ◌&&◌, List, [], ◌∷◌, ◌++◌, Some, None, Option, Result, MatchResult, nat_le}
+use Rattle.std.specs.Option.{option_or}
 use Rattle.refusals.specs.declared.Refusal.{Refusal}
-
--- the first fault, if there is one, else the second
-abbrev pub or_else : Option Refusal → Option Refusal → Option Refusal
-or_else (Some f) g = Some f
-or_else None g = g
 
 -- the first fault of the elements, each beside those before it
 abbrev pub first_fault : {X : Type 0} → (List X → X → Option Refusal) → List X → List X → Option Refusal
 first_fault fault before [] = None
-first_fault fault before (x ∷ xs) = or_else (fault before x) (first_fault fault (before ++ x ∷ []) xs)
+first_fault fault before (x ∷ xs) = option_or (fault before x) (first_fault fault (before ++ x ∷ []) xs)
 
 -- whether k is one of low to high
 abbrev pub from_to : ℕ → ℕ → ℕ → Bool

@@ -1,5 +1,5 @@
 -- The route of a row, by its line and by its mask.
-use Rattle.std.proofs.Common.{◌≡◌, ℕ, zero, suc, ◌+◌, ◌<◌, Bool, true, false, cond, not, ◌&&◌, eqb, List, [], ◌∷◌, length, sym, refl, ap, ◌∙◌, arith}
+use Rattle.std.proofs.Common.{◌≡◌, ℕ, zero, suc, ◌+◌, ◌<◌, Bool, true, false, cond, not, ◌&&◌, eqb, List, [], ◌∷◌, length, Some, None, Option, MatchOption, sym, refl, ap, ◌∙◌, arith}
 use lib.Bits.{bit_and}
 use Rattle.std.proofs.lemmas.Bool.{or_parts, cond-false}
 use Rattle.ring.specs.Ring.{over, within, row_over, named}
@@ -33,11 +33,11 @@ row_by_line (d ∷ ds) r e h = go (eqb d.number r.demand) h (row_by_line ds r e)
     go true l ih = refl
     go false l ih = let s : suc (line_of ds r.demand) ≡ 1 + line_of ds r.demand = omega arith in ih (omega arith) ∙ ap (λ k. over r.side (line_at (d ∷ ds) k).lower (line_at (d ∷ ds) k).upper e) s
 
-none_bits : (e m : ℕ) → bits e m (λ _. false) ≡ 0
+pub none_bits : (e m : ℕ) → bits e m (λ _. false) ≡ 0
 none_bits e zero = refl
 none_bits e (suc m) = omega (arith, none_bits (e + 1) m)
 
-pub mask_unknown : (n : ℕ) (ds : List Demand) (r : Row) → ((e : ℕ) → row_over ds r e ≡ false) → mask n ds r ≡ 0
+mask_unknown : (n : ℕ) (ds : List Demand) (r : Row) → ((e : ℕ) → row_over ds r e ≡ false) → mask n ds r ≡ 0
 mask_unknown n ds r h = bits_same (row_over ds r) (λ _. false) h 1 n ∙ none_bits 1 n
 
 -- a route has the side's number only as 0 or not 0
@@ -59,5 +59,12 @@ route_is ds r k side h q e =
     ∙ sym (row_by_line ds r e (omega arith))
 
 -- and its mask
-pub mask_is : (n : ℕ) (ds : List Demand) (r : Row) (d : Route) → ((e : ℕ) → holds d e ≡ row_over ds r e) → link_mask n (code d.side) d.demand.lower d.demand.upper ≡ mask n ds r
+mask_is : (n : ℕ) (ds : List Demand) (r : Row) (d : Route) → ((e : ℕ) → holds d e ≡ row_over ds r e) → link_mask n (code d.side) d.demand.lower d.demand.upper ≡ mask n ds r
 mask_is n ds r d h = bits_same (holds d) (row_over ds r) h 1 n
+
+-- a mask by the route, or 0 where there is none
+pub mask_by : (n : ℕ) (ds : List Demand) (r : Row) (o : Option Route) (w : ℕ) (Q : Route → Type 0) →
+    MatchOption o ((e : ℕ) → row_over ds r e ≡ false) (λ d. (e : ℕ) → holds d e ≡ row_over ds r e) → MatchOption o (w ≡ 0) Q →
+    ((d : Route) → Q d → w ≡ link_mask n (code d.side) d.demand.lower d.demand.upper) → w ≡ mask n ds r
+mask_by n ds r None w Q h k f = k ∙ sym (mask_unknown n ds r h)
+mask_by n ds r (Some d) w Q h k f = f d k ∙ mask_is n ds r d h

@@ -22,7 +22,7 @@ pub going_none : (n : ℕ) (ds : List Demand) (rows : List Row) (marks : List �
 going_none n ds rows marks h =
     record { fault = refl; tied = tied_none n ds marks (length marks) h; seen = seen_none ds 128; size = length-replicate {A = Option ℕ} 128 None; clear = λ b l. absurd (omega arith) }
 
-module _ (n : ℕ) (ds : List Demand) (rows : List Row) (i : ℕ) (firsts : List (Option ℕ)) (marks : List ℕ) (g : Going n ds rows i firsts marks) where
+module _ {n : ℕ} {ds : List Demand} {rows : List Row} {i : ℕ} {firsts : List (Option ℕ)} {marks : List ℕ} (g : Going n ds rows i firsts marks) where
   pub going_ends : length rows ≤ i → rows_fault n ds rows ≡ None
   going_ends l = fault_ends (row_fault n ds) rows i (rows_fault n ds rows) l g.fault
 
@@ -33,8 +33,11 @@ module _ (n : ℕ) (ds : List Demand) (rows : List Row) (i : ℕ) (firsts : List
         ∙ or_stop (row_fault n ds (take i rows) (row_at rows i)) _ f (or_stop (form_fault ds (take i rows) (row_at rows i)) (collision_fault n ds (take i rows) (row_at rows i)) f h)
 
     module _ (h : form_fault ds (take i rows) (row_at rows i) ≡ None) where
-      pub going_met : (t : Bool) → t ≡ meets (mask n ds (row_at rows i)) (get_or marks ((row_at rows i).slot - 1) 0) → some (clash n ds (row_at rows i)) (take i rows) ≡ t
-      going_met t e = let o = (form_fine ds (take i rows) (row_at rows i) h).on_sheet in sym (e ∙ tied_taken n ds (take i rows) marks (row_at rows i) g.tied o.0 o.1)
+      -- with what the code has made of the row: w is its mask, and t says whether it is taken
+      pub going_met : (w : ℕ) → w ≡ mask n ds (row_at rows i) → (t : Bool) → t ≡ meets w (get_or marks ((row_at rows i).slot - 1) 0) → some (clash n ds (row_at rows i)) (take i rows) ≡ t
+      going_met w ew t et =
+          let o = (form_fine ds (take i rows) (row_at rows i) h).on_sheet in
+          sym (et ∙ ap (λ w. meets w (get_or marks ((row_at rows i).slot - 1) 0)) ew ∙ tied_taken n ds (take i rows) marks (row_at rows i) g.tied o.0 o.1)
 
       pub going_collides : some (clash n ds (row_at rows i)) (take i rows) ≡ true → rows_fault n ds rows ≡ Some (Collision (i + 1) (earliest n ds (take i rows) (row_at rows i) + 1))
       going_collides m =
@@ -43,7 +46,6 @@ module _ (n : ℕ) (ds : List Demand) (rows : List Row) (i : ℕ) (firsts : List
           (or_pass (form_fault ds (take i rows) (row_at rows i)) (collision_fault n ds (take i rows) (row_at rows i)) h ∙ collision_some n ds (take i rows) (row_at rows i) m
           ∙ ap (λ k. Some (Collision (k + 1) (earliest n ds (take i rows) (row_at rows i) + 1))) (length-take-le i rows (omega arith)))
 
-      -- with what the code has made of the row
       pub going_on : WithinLimits n ds → 1024 ≤ length marks → (k : ℕ) → LineOf ds (row_at rows i).demand k →
           (w : ℕ) → w ≡ mask n ds (row_at rows i) → (t : Bool) → t ≡ meets w (get_or marks ((row_at rows i).slot - 1) 0) → t ≡ false →
           (marks' : List ℕ) → marks' ≡ marked_at marks (row_at rows i).slot w → Going n ds rows (i + 1) (set firsts k (Some (row_at rows i).side)) marks'
@@ -67,4 +69,4 @@ module _ (n : ℕ) (ds : List Demand) (rows : List Row) (i : ℕ) (firsts : List
           more = take_more rows i none l
 
           m : some (clash n ds r) (take i rows) ≡ false
-          m = going_met t (et ∙ ap (λ w. meets w (get_or marks (r.slot - 1) 0)) ew) ∙ tf
+          m = going_met w ew t et ∙ tf

@@ -1,9 +1,11 @@
 -- The rows pass exactly where they are of known demands, on the sheet, on one side for each demand, and apart.
 use Rattle.std.proofs.Common.{◌≡◌, ℕ, zero, suc, ◌+◌, ◌<◌, ◌≤◌, Bool, true, false, cond, not, ◌&&◌, eqb, ltb, leb, ◌⊎◌, List, [], ◌∷◌, ◌++◌, length, None, sym, refl, ap, ◌∙◌, subst, inl, inr, ⊎_elim, arith}
-use Rattle.std.specs.List.{AllByRecursion as Each, range_with_len}
+use Rattle.std.specs.List.{AllByRecursion as Each, range_with_len, position_or_len}
+use Rattle.std.proofs.lemmas.List.Sums.{passes_at_first}
+use Rattle.std.proofs.lemmas.List.FromFn.{length-range_with_len, get_or-range_with_len}
 use Rattle.std.proofs.lemmas.List.{append_assoc}
 use Rattle.std.proofs.ByRecursion.{All-weaker}
-use Rattle.std.proofs.lemmas.Bool.{eqb-true, eq-eqb, or_cases, or_left, or_right, and_parts, and_from, not-true, not-false, not_from_true, not_from_false, leb-true, le-leb, both_ways, cases_Bool, cases_eq, cond-true, false≢true}
+use Rattle.std.proofs.lemmas.Bool.{ltb-true, eqb-true, eq-eqb, or_cases, or_left, or_right, and_parts, and_from, not-true, not-false, not_from_true, not_from_false, leb-true, le-leb, both_ways, cases_Bool, cases_eq, cond-true, false≢true}
 use Rattle.ring.specs.Sums.{some, count_of}
 use Rattle.ring.specs.Ring.{Link, row_over, named, Apart, Clear, Plan}
 use Rattle.checkrows.specs.Rows.{OnSheet}
@@ -11,7 +13,9 @@ use Rattle.checklines.specs.Faults.{from_to}
 use Rattle.checkrows.specs.Rows.{like_first, meet, clash, earliest, form_fault, collision_fault, row_fault, rows_fault, is_full, counts_fault}
 use Rattle.ring.specs.declared.Demand.{Demand}
 use Rattle.ring.specs.declared.Row.{Row}
-use Rattle.checklines.proofs.Walk.{Walk, Pairs, or_none, or_pass, passed, pass, walk_none, none_walk, walk_weaker, walk_all, walk_pairs, pairs_walk, walk_both, leading_all, all_leading}
+use Rattle.ring.proofs.Summing.{all_of}
+use Rattle.checkrows.proofs.Places.{some_place}
+use Rattle.checklines.proofs.Walk.{Walk, Pairs, all_split, or_none, or_pass, passed, pass, walk_none, none_walk, walk_weaker, walk_all, walk_pairs, pairs_walk, walk_both, leading_all, all_leading}
 
 -- ---- links
 pub some_at : (p : ℕ → Bool) (a m e : ℕ) → a ≤ e → e < a + m → p e ≡ true → some p (range_with_len a m) ≡ true
@@ -21,12 +25,12 @@ some_at p a (suc m) e l h q =
     (λ (ne : e ≡ a → ⊥). or_right (p a) (some p (range_with_len (a + 1) m)) (some_at p (a + 1) m e (omega arith) (omega arith) q)) (cases_eq e a)
 
 pub some_from : (p : ℕ → Bool) (a m : ℕ) → some p (range_with_len a m) ≡ true → (e : ℕ) × (a ≤ e) × (e < a + m) × (p e ≡ true)
-some_from p a zero h = absurd (false≢true h)
-some_from p a (suc m) h = go (or_cases (p a) (some p (range_with_len (a + 1) m)) h) (some_from p (a + 1) m)
-  where
-    go : (p a ≡ true) ⊎ (some p (range_with_len (a + 1) m) ≡ true) → (some p (range_with_len (a + 1) m) ≡ true → (e : ℕ) × (a + 1 ≤ e) × (e < a + 1 + m) × (p e ≡ true)) → (e : ℕ) × (a ≤ e) × (e < a + suc m) × (p e ≡ true)
-    go (inl q) ih = (a, omega arith, omega arith, q)
-    go (inr q) ih = let f = ih q in (f.0, omega (arith, f.1), omega (arith, f.2), f.3)
+some_from p a m h =
+    let xs = range_with_len a m in
+    let k = position_or_len p xs in
+    let l : k < length xs = ltb-true _ _ (sym (some_place p xs) ∙ h) in
+    let few : k < m = omega (arith, l, length-range_with_len a m) in
+    (a + k, omega arith, omega arith, ap p (sym (get_or-range_with_len a m k 0 few)) ∙ passes_at_first p xs 0 l)
 
 -- two rows clash exactly where they have one slot and share a link
 pub clash_link : (n : ℕ) (ds : List Demand) (r q : Row) → clash n ds r q ≡ true → (q.slot ≡ r.slot) × ((e : ℕ) × Link n e × (row_over ds r e ≡ true) × (row_over ds q e ≡ true))
@@ -139,10 +143,6 @@ sides_from n ds k before (r ∷ rs) w = (
   subst (λ (all : List Row). Each (λ (r : Row). r.demand ≡ k → r.side ≡ side_of k all) rs) (append_assoc before (r ∷ []) rs) (sides_from n ds k (before ++ r ∷ []) rs w.1),
 )
 
-all_of : {X : Type 0} (P : X → Type 0) → ((x : X) → P x) → (xs : List X) → Each P xs
-all_of P h [] = tt
-all_of P h (x ∷ xs) = (h x, all_of P h xs)
-
 pairs_clear : (n : ℕ) (ds : List Demand) (rows : List Row) → Pairs (Apart n ds) rows → Clear n ds rows
 pairs_clear n ds [] p = tt
 pairs_clear n ds (r ∷ rs) p = (p.0, pairs_clear n ds rs p.1)
@@ -194,10 +194,6 @@ side_of_known (d ∷ ds) rows a k h = go (or_cases (eqb d.number k) (named ds k)
     go : (eqb d.number k ≡ true) ⊎ (named ds k ≡ true) → (named ds k ≡ true → (s : ℕ) × (s ≤ 1) × Each (λ (r : Row). r.demand ≡ k → r.side ≡ s) rows) → (s : ℕ) × (s ≤ 1) × Each (λ (r : Row). r.demand ≡ k → r.side ≡ s) rows
     go (inl e) ih = (a.0.0, a.0.1, All-weaker (λ (r : Row). r.demand ≡ d.number → r.side ≡ a.0.0) (λ (r : Row). r.demand ≡ k → r.side ≡ a.0.0) (λ r f g. f (g ∙ sym (eqb-true d.number k e))) rows a.0.2)
     go (inr e) ih = ih e
-
-all_split : {X : Type 0} (P : X → Type 0) (xs ys : List X) → Each P (xs ++ ys) → Each P xs × Each P ys
-all_split P [] ys a = (tt, a)
-all_split P (x ∷ xs) ys a = let r = all_split P xs ys a.1 in ((a.0, r.0), r.1)
 
 sides_walk : (ds : List Demand) (before rows : List Row) → ((k : ℕ) → named ds k ≡ true → (s : ℕ) × (s ≤ 1) × Each (λ (r : Row). r.demand ≡ k → r.side ≡ s) (before ++ rows)) →
     Each (λ (r : Row). named ds r.demand ≡ true) rows → Walk (λ b (r : Row). (r.side ≤ 1) × (like_first r.demand r.side b ≡ true)) before rows

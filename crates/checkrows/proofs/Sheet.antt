@@ -1,10 +1,12 @@
 -- The sheet of marks and the first sides stand for the rows so far.
 use Rattle.std.proofs.Common.{◌≡◌, ℕ, zero, suc, ◌+◌, ◌-◌, ◌<◌, ◌≤◌, Bool, true, false, cond, not, ◌&&◌, ◌||◌, eqb, ltb, leb, ◌⊎◌, List, [], ◌∷◌, ◌++◌, length, get_or, take, set, replicate, Some, None, Option, sym, refl, ap, ◌∙◌, subst, ap₂, ⊎_elim, arith}
 use lib.Bits.{bit_or}
-use Rattle.std.specs.List.{range_with_len, prefix_len}
+use Rattle.std.specs.List.{range_with_len, position_or_len, position}
 use Rattle.std.proofs.lemmas.List.{get_or-set_same, get_or-set_other, get_or-take, length-take-le, get_or-replicate, get_or_past, length-replicate}
-use Rattle.std.proofs.ByRecursion.{All-get_or, All-weaker}
-use Rattle.std.proofs.lemmas.Bool.{eqb-true, eq-eqb, ne_eqb, cases_eq, cases_lt, cases_order, or_cases, both_ways, cond-true, cond-false, not_from_true, not_from_false, false≢true, lt-ltb}
+use Rattle.std.proofs.lemmas.List.Sums.{position_or_len_is, passes_at_first}
+use Rattle.std.proofs.lemmas.List.Quantifiers.{position-Some}
+use Rattle.std.proofs.ByRecursion.{All-get_or}
+use Rattle.std.proofs.lemmas.Bool.{ltb-true, eqb-true, eq-eqb, ne_eqb, cases_eq, cases_lt, cases_order, both_ways, cond-true, cond-false, not_from_true}
 use Rattle.ring.specs.Sums.{some}
 use Rattle.ring.specs.Ring.{row_over, named, Numbered}
 use Rattle.checklines.specs.Faults.{from_to}
@@ -15,8 +17,10 @@ use Rattle.sheet.specs.Marks.{meets}
 use Rattle.checkrows.specs.Rows.{row_at}
 use Rattle.ring.specs.declared.Demand.{Demand}
 use Rattle.ring.specs.declared.Row.{Row}
-use Rattle.refusals.specs.declared.Refusal.TheVariants.{DemandUnknown, SlotOutside, SideWrong, Collision}
-use Rattle.checklines.proofs.Walk.{all_leading, none_passes}
+use Rattle.refusals.specs.declared.Refusal.TheVariants.{SlotOutside, SideWrong, Collision}
+use Rattle.checklines.proofs.Walk.{none_passes}
+use Rattle.checkrows.proofs.Links.{none_bits}
+use Rattle.checkrows.proofs.Places.{some_place, no_place}
 use Rattle.ring.proofs.Bits.{bits_and, bits_or, bits_same, bits_some, some_same, some_or, some_none}
 
 some_push : {X : Type 0} (p : X → Bool) (xs : List X) (x : X) → some p (xs ++ x ∷ []) ≡ (some p xs || p x)
@@ -67,13 +71,9 @@ tied_taken n ds before marks r t l h =
     ∙ held_clash n ds r before
 
 -- a blank sheet stands for no rows
-bits_none : (n e : ℕ) → bits e n (λ _. false) ≡ 0
-bits_none zero e = refl
-bits_none (suc n) e = omega (arith, bits_none n (e + 1))
-
 pub tied_none : (n : ℕ) (ds : List Demand) (marks : List ℕ) (m : ℕ) → marks ≡ replicate m 0 → Tied n ds [] marks
 tied_none n ds marks m h k l =
-    ap (λ xs. get_or xs k 0) h ∙ ⊎_elim (λ (a : k < m). get_or-replicate m k 0 0 a) (λ (a : m ≤ k). get_or_past (replicate m 0) k 0 (omega (arith, length-replicate {A = ℕ} m 0))) (cases_lt k m) ∙ sym (bits_none n 1)
+    ap (λ xs. get_or xs k 0) h ∙ ⊎_elim (λ (a : k < m). get_or-replicate m k 0 0 a) (λ (a : m ≤ k). get_or_past (replicate m 0) k 0 (omega (arith, length-replicate {A = ℕ} m 0))) (cases_lt k m) ∙ sym (none_bits 1 n)
 
 -- one more row is marked
 pub tied_mark : (n : ℕ) (ds : List Demand) (before : List Row) (marks : List ℕ) (r : Row) → Tied n ds before marks → 1 ≤ r.slot → r.slot ≤ 1024 → 1024 ≤ length marks →
@@ -105,22 +105,12 @@ tied_mark n ds before marks r t l h room k u = ⊎_elim same other (cases_eq k (
         ∙ bits_same (held ds before (k + 1)) (held ds (before ++ r ∷ []) (k + 1)) (λ e. sym (by (k + 1) false (ne_eqb r.slot (k + 1) (λ f. q (omega arith))) e ∙ false_end (held ds before (k + 1) e))) 1 n
 
 -- ---- a loop of rows: the row clashes with none before, or with the earliest
-some_leading : {X : Type 0} (p : X → Bool) (xs : List X) → some p xs ≡ true → prefix_len (λ x. not (p x)) xs < length xs
-some_leading p [] h = absurd (false≢true h)
-some_leading p (x ∷ xs) h = go (p x) h (some_leading p xs)
-  where
-    go : (b : Bool) → (b || some p xs) ≡ true → (some p xs ≡ true → prefix_len (λ x. not (p x)) xs < length xs) → cond (not b) (1 + prefix_len (λ x. not (p x)) xs) 0 < suc (length xs)
-    go true g ih = omega arith
-    go false g ih = omega (arith, ih g)
-
 pub collision_none : (n : ℕ) (ds : List Demand) (before : List Row) (r : Row) → some (clash n ds r) before ≡ false → collision_fault n ds before r ≡ None
-collision_none n ds before r h =
-    cond-false (ltb (earliest n ds before r) (length before)) _ _
-    (all_leading (λ (q : Row). not (clash n ds r q)) before (All-weaker (λ (q : Row). clash n ds r q ≡ false) (λ (q : Row). not (clash n ds r q) ≡ true) (λ q e. not_from_false _ e) before (none_passes (clash n ds r) before h)))
+collision_none n ds before r h = cond-false (ltb (earliest n ds before r) (length before)) _ _ (sym (some_place (clash n ds r) before) ∙ h)
 
 pub collision_some : (n : ℕ) (ds : List Demand) (before : List Row) (r : Row) → some (clash n ds r) before ≡ true →
     collision_fault n ds before r ≡ Some (Collision (length before + 1) (earliest n ds before r + 1))
-collision_some n ds before r h = cond-true (ltb (earliest n ds before r) (length before)) _ _ (lt-ltb _ _ (some_leading (clash n ds r) before h))
+collision_some n ds before r h = cond-true (ltb (earliest n ds before r) (length before)) _ _ (sym (some_place (clash n ds r) before) ∙ h)
 
 abbrev none : Row
 none = record { demand = 0; side = 0; slot = 0 }
@@ -134,14 +124,25 @@ clear_more n ds rows i l h k b lb =
         ap (clash n ds (row_at rows i)) (sym (get_or-take i rows a none la))
         ∙ All-get_or (λ (q : Row). clash n ds (row_at rows i) q ≡ false) (take i rows) a none (omega (arith, length-take-le i rows (omega arith))) (none_passes (clash n ds (row_at rows i)) (take i rows) k)
 
-some_here : {X : Type 0} (p : X → Bool) (xs : List X) (d : X) → some p xs ≡ true → ((a : ℕ) → a < length xs → p (get_or xs a d) ≡ false) → ⊥
-some_here p [] d h f = false≢true h
-some_here p (x ∷ xs) d h f = ⊎_elim (λ (e : p x ≡ true). both_ways (p x) (f 0 (omega arith)) e) (λ (e : some p xs ≡ true). some_here p xs d e (λ a l. f (suc a) (omega arith))) (or_cases (p x) (some p xs) h)
+-- one step of the loop over the rows: row i collides with an earlier one, or with none
+pub pair_found : (n : ℕ) (ds : List Demand) (rows : List Row) (i j : ℕ) → i < length rows → ClearTo n ds rows i → position (clash n ds (row_at rows i)) (take i rows) ≡ Some j → FirstClash n ds rows i j
+pair_found n ds rows i j l h e =
+    let m = position-Some (clash n ds (row_at rows i)) (take i rows) j none e in
+    let lower : j < i = omega (arith, m.0, length-take-le i rows (omega arith)) in (
+      lower,
+      l,
+      ap (clash n ds (row_at rows i)) (sym (get_or-take i rows j none lower)) ∙ m.1,
+      (λ a la. ap (clash n ds (row_at rows i)) (sym (get_or-take i rows a none (omega arith))) ∙ m.2 a la),
+      h,
+    )
 
-leading_at : {X : Type 0} (p : X → Bool) (xs : List X) (d : X) (j : ℕ) → j < length xs → ((a : ℕ) → a < j → p (get_or xs a d) ≡ true) → p (get_or xs j d) ≡ false → prefix_len p xs ≡ j
-leading_at p [] d j l h e = absurd (omega arith)
-leading_at p (x ∷ xs) d zero l h e = cond-false (p x) (1 + prefix_len p xs) 0 e
-leading_at p (x ∷ xs) d (suc j) l h e = cond-true (p x) (1 + prefix_len p xs) 0 (h 0 (omega arith)) ∙ (let r = leading_at p xs d j (omega arith) (λ a la. h (suc a) (omega arith)) e in omega arith)
+pub pair_none : (n : ℕ) (ds : List Demand) (rows : List Row) (i : ℕ) → i < length rows → ClearTo n ds rows i → position (clash n ds (row_at rows i)) (take i rows) ≡ None → ClearTo n ds rows (i + 1)
+pair_none n ds rows i l h e = clear_more n ds rows i l h (no_place (clash n ds (row_at rows i)) (take i rows) e)
+
+some_here : {X : Type 0} (p : X → Bool) (xs : List X) (d : X) → some p xs ≡ true → ((a : ℕ) → a < length xs → p (get_or xs a d) ≡ false) → ⊥
+some_here p xs d h f =
+    let l : position_or_len p xs < length xs = ltb-true _ _ (sym (some_place p xs) ∙ h) in
+    both_ways (p (get_or xs (position_or_len p xs) d)) (f (position_or_len p xs) l) (passes_at_first p xs d l)
 
 -- some row of the first i clashes with row i, so not all are clear
 pub clash_there : (n : ℕ) (ds : List Demand) (rows : List Row) (i : ℕ) → i < length rows → some (clash n ds (row_at rows i)) (take i rows) ≡ true → ClearOf n ds rows i i → ⊥
@@ -155,9 +156,9 @@ first_is n ds rows i j at l clear h f =
     let e : i ≡ at = ⊎_elim (λ (s : i ≡ at). s)
     (λ (s : (i < at) ⊎ (at < i)). absurd (⊎_elim (λ (s : i < at). both_ways _ (clear i s j f.0) f.2) (λ (s : at < i). clash_there n ds rows at l h (f.4 at s)) s)) (cases_order i at) in (
       e,
-      sym (leading_at (λ (q : Row). not (clash n ds (row_at rows at) q)) (take at rows) none j (omega (arith, f.0, length-take-le at rows (omega arith)))
-          (λ a la. not_from_false _ (ap (clash n ds (row_at rows at)) (get_or-take at rows a none (omega (arith, f.0))) ∙ ap (λ b. clash n ds (row_at rows b) (row_at rows a)) (sym e) ∙ f.3 a la))
-          (not_from_true _ (ap (clash n ds (row_at rows at)) (get_or-take at rows j none (omega (arith, f.0))) ∙ ap (λ b. clash n ds (row_at rows b) (row_at rows j)) (sym e) ∙ f.2))),
+      sym (position_or_len_is (clash n ds (row_at rows at)) (take at rows) j none (omega (arith, f.0, length-take-le at rows (omega arith)))
+          (λ a la. ap (clash n ds (row_at rows at)) (get_or-take at rows a none (omega (arith, f.0))) ∙ ap (λ b. clash n ds (row_at rows b) (row_at rows a)) (sym e) ∙ f.3 a la)
+          (λ _. ap (clash n ds (row_at rows at)) (get_or-take at rows j none (omega (arith, f.0))) ∙ ap (λ b. clash n ds (row_at rows b) (row_at rows j)) (sym e) ∙ f.2)),
     )
 
 -- ---- the side of each line's first row
@@ -170,15 +171,7 @@ like_first_lem m s (q ∷ qs) = go (eqb q.demand m) (like_first_lem m s qs)
     go false ih = ih
 
 pub line_number : (ds : List Demand) (k : ℕ) → line_of ds k < length ds → (line_at ds (line_of ds k)).number ≡ k
-line_number [] k h = absurd (omega arith)
-line_number (d ∷ ds) k h = go (eqb d.number k) refl h (line_number ds k)
-  where
-    at : Bool → ℕ
-    at t = cond (not t) (1 + line_of ds k) 0
-
-    go : (t : Bool) → eqb d.number k ≡ t → at t < suc (length ds) → (line_of ds k < length ds → (line_at ds (line_of ds k)).number ≡ k) → (line_at (d ∷ ds) (at t)).number ≡ k
-    go true e l ih = eqb-true d.number k e
-    go false e l ih = let s : 1 + line_of ds k ≡ suc (line_of ds k) = omega arith in ap (λ j. (line_at (d ∷ ds) j).number) s ∙ ih (omega arith)
+line_number ds k h = eqb-true _ k (passes_at_first (λ (d : Demand). eqb d.number k) ds (line_at [] 0) h)
 
 numbered_apart : (ds : List Demand) → Numbered ds → (i j : ℕ) → i < length ds → j < length ds → (i ≡ j → ⊥) → (line_at ds i).number ≡ (line_at ds j).number → ⊥
 numbered_apart [] h i j li lj ne e = absurd (omega arith)
@@ -223,9 +216,6 @@ seen_mark ds before firsts r k num seen at room like j lj =
     (cases_eq j k)
 
 -- ---- what the check of one row says
-pub form_unknown : (ds : List Demand) (before : List Row) (r : Row) → named ds r.demand ≡ false → form_fault ds before r ≡ Some (DemandUnknown (length before + 1))
-form_unknown ds before r h = cond-true (not (named ds r.demand)) _ _ (not_from_false _ h)
-
 pub form_known : (ds : List Demand) (before : List Row) (r : Row) (first : Option ℕ) (place : ℕ) → named ds r.demand ≡ true → first ≡ first_side r.demand before → place ≡ length before + 1 →
     form_fault ds before r ≡ slot_or_side_fault r first place
 form_known ds before r first place h e at =
@@ -234,8 +224,7 @@ form_known ds before r first place h e at =
     (like_first_lem r.demand r.side before ∙ ap (λ o. alike o r.side) (sym e))
     ∙ ap (slot_or_side_fault r first) (sym at)
 
--- the row at a place whose line is known
-pub form_seen : (ds : List Demand) (rows : List Row) (at : ℕ) (firsts : List (Option ℕ)) (k : ℕ) → Seen ds (take at rows) firsts → at < length rows → LineOf ds (row_at rows at).demand k →
-    form_fault ds (take at rows) (row_at rows at) ≡ slot_or_side_fault (row_at rows at) (get_or firsts k None) (at + 1)
-form_seen ds rows at firsts k seen l line =
-    form_known ds (take at rows) (row_at rows at) (get_or firsts k None) (at + 1) line.known (seen_at ds (take at rows) firsts (row_at rows at) k seen line) (omega (arith, length-take-le at rows (omega arith)))
+-- a row whose line is known
+pub form_seen : (ds : List Demand) (before : List Row) (r : Row) (firsts : List (Option ℕ)) (k : ℕ) → Seen ds before firsts → LineOf ds r.demand k →
+    form_fault ds before r ≡ slot_or_side_fault r (get_or firsts k None) (length before + 1)
+form_seen ds before r firsts k seen line = form_known ds before r (get_or firsts k None) (length before + 1) line.known (seen_at ds before firsts r k seen line) refl

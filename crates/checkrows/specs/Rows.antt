@@ -1,13 +1,14 @@
 -- What is wrong with the rows: the first cause in the order of the checks. Places count from 0, and a refusal names lines and rows from 1.
 use Rattle.std.specs.Prelude.{◌≡◌, ℕ, ◌+◌, ◌≤◌, Bool, true, cond, not, ◌&&◌, List, [], ◌∷◌, length, Some, None, Option, ◌==◌, nat_eq, nat_le, nat_lt, slice_index_or}
-use Rattle.std.specs.List.{range_with_len, prefix_len, AllByRecursion as Each}
+use Rattle.std.specs.List.{range_with_len, prefix_len, position_or_len, AllByRecursion as Each}
 use Rattle.refusals.specs.declared.Refusal.{Refusal}
 use Rattle.refusals.specs.declared.Refusal.TheVariants.{DemandUnknown, SlotOutside, SideWrong, Collision, CountWrong}
 use Rattle.ring.specs.Sums.{count_of, some}
 use Rattle.ring.specs.Ring.{named, row_over, Plan}
 use Rattle.ring.specs.declared.Demand.{Demand}
 use Rattle.ring.specs.declared.Row.{Row}
-use Rattle.checklines.specs.Faults.{or_else, first_fault, from_to}
+use Rattle.std.specs.Option.{option_or}
+use Rattle.checklines.specs.Faults.{first_fault, from_to}
 
 -- the row at a place, and past the end a row of noughts
 abbrev pub row_at : List Row → ℕ → Row
@@ -29,7 +30,7 @@ clash n lines r q = q.slot == r.slot && meet n lines r q
 
 -- the place of the earliest row that r clashes with, or how many rows there are
 abbrev pub earliest : ℕ → List Demand → List Row → Row → ℕ
-earliest n lines before r = prefix_len (λ (q : Row). not (clash n lines r q)) before
+earliest n lines before r = position_or_len (clash n lines r) before
 
 -- what is wrong with a row by itself, and beside its demand's first row
 abbrev pub form_fault : List Demand → List Row → Row → Option Refusal
@@ -46,7 +47,7 @@ collision_fault n lines before r =
 
 -- what is wrong with a row, after the rows before it
 abbrev pub row_fault : ℕ → List Demand → List Row → Row → Option Refusal
-row_fault n lines before r = or_else (form_fault lines before r) (collision_fault n lines before r)
+row_fault n lines before r = option_or (form_fault lines before r) (collision_fault n lines before r)
 
 -- what is wrong with the rows: the fault of the first row that has one
 abbrev pub rows_fault : ℕ → List Demand → List Row → Option Refusal

@@ -1,7 +1,8 @@
 -- What the code keeps while it goes through the rows: the sheet of marks, and the side of each line's first row. No contract of the whole
 -- check speaks of this.
 use Rattle.std.specs.Prelude.{◌≡◌, ℕ, ◌+◌, ◌-◌, ◌<◌, Bool, true, false, cond, not, ◌&&◌, List, [], ◌∷◌, length, take, drop, Some, None, Option, ◌==◌, bit_or, nat_le, slice_index, slice_index_or, slice_set}
-use Rattle.std.specs.List.{prefix_len}
+use Rattle.std.specs.List.{position_or_len}
+use Rattle.std.specs.Option.{option_map_or}
 use Rattle.refusals.specs.declared.Refusal.{Refusal}
 use Rattle.refusals.specs.declared.Refusal.TheVariants.{SlotOutside, SideWrong}
 use Rattle.ring.specs.Sums.{some}
@@ -15,7 +16,7 @@ use Rattle.checkrows.specs.Rows.{clash, row_fault, rows_fault, row_at}
 -- ---- lines by their numbers
 -- the place of the first line with the number, or how many lines there are
 abbrev pub line_of : List Demand → ℕ → ℕ
-line_of lines number = prefix_len (λ (d : Demand). not (d.number == number)) lines
+line_of lines number = position_or_len (λ (d : Demand). d.number == number) lines
 
 -- a line by its place, and past the end a line of noughts
 abbrev pub line_at : List Demand → ℕ → Demand
@@ -35,8 +36,7 @@ first_side number (q ∷ qs) = cond (q.demand == number) (Some q.side) (first_si
 
 -- the side, if there is one, is s
 abbrev pub alike : Option ℕ → ℕ → Bool
-alike None s = true
-alike (Some t) s = t == s
+alike first s = option_map_or (λ t. t == s) first true
 
 -- what is wrong with the slot or the side of a row, where its demand's first row has the given side
 abbrev pub slot_or_side_fault : Row → Option ℕ → ℕ → Option Refusal

@@ -10,8 +10,9 @@ use Rattle.ring.specs.Sides.{holds, route_load}
 use Rattle.ring.specs.declared.Route.{Route}
 use Rattle.drawn.specs.FirstFit.{put, fitted, fitted_after, one_each}
 use Rattle.drawn.specs.Slotting.{cut_link, shares, start_node, round, units_over, units_from, units_beside, slotted, Valid}
-use Rattle.drawn.proofs.FirstFit.{folded_append, Led, Leads, Bounded, all_both, fitted_bound, one_to_a_slot}
+use Rattle.drawn.proofs.FirstFit.{Led, Leads, Bounded, all_both, fitted_bound, one_to_a_slot}
 use Rattle.drawn.proofs.Line.{AtNode, after, leads, holds_start, all_joined, all_replicate, led_joined, round_led}
+use Rattle.std.proofs.lemmas.List.Sums.{fold-append}
 use Rattle.drawn.specs.Claims.{OverFirst}
 use Rattle.ring.proofs.FirstBest.{first_least_lem}
 use Rattle.drawn.proofs.Counts.{turns, count_units, count_turns, start_in}
@@ -99,7 +100,7 @@ over_one_each n c routes lc =
 pub over_first : OverFirst
 over_first n c routes lc = (
   length_over routes c,
-  ap (λ ss. fitted_after (shares n) ss (units_beside n routes c)) (sym (over_one_each n c routes lc)) ∙ sym (folded_append (put (shares n)) (units_over routes c) (units_beside n routes c) []),
+  ap (λ ss. fitted_after (shares n) ss (units_beside n routes c)) (sym (over_one_each n c routes lc)) ∙ sym (fold-append (put (shares n)) [] (units_over routes c) (units_beside n routes c)),
 )
 
 pub slotted_fits : (n : ℕ) (routes : List Route) → 1 ≤ n → slotted n routes ≡ first_fit n routes

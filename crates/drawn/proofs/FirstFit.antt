@@ -14,10 +14,6 @@ pub folded_keeps : {A B : Type 0} (f : B → A → B) (P : B → Type 0) → ((b
 folded_keeps f P step [] b h = h
 folded_keeps f P step (x ∷ xs) b h = folded_keeps f P step xs (f b x) (step b x h)
 
-pub folded_append : {A B : Type 0} (f : B → A → B) (xs ys : List A) (b : B) → fold f b (xs ++ ys) ≡ fold f (fold f b xs) ys
-folded_append f [] ys b = refl
-folded_append f (x ∷ xs) ys b = folded_append f xs ys (f b x)
-
 -- ---- no two of a slot clash
 pub put_apart : {X : Type 0} (clash : X → X → Bool) (ss : List (List X)) (x : X) → Each (Unclashing clash) ss → Each (Unclashing clash) (put clash ss x)
 put_apart clash [] x h = ((refl, tt), tt)

@@ -2,6 +2,7 @@
 use Rattle.std.proofs.Common.{◌≡◌, ℕ, zero, suc, ◌+◌, ◌-◌, ◌<◌, ◌≤◌, Bool, true, false, cond, ◌&&◌, ltb, ◌⊎◌, List, [], ◌∷◌, ◌++◌, replicate, inr, ⊎_elim, arith}
 use Rattle.std.specs.List.{range_with_len, flat_map, AllByRecursion as Each}
 use Rattle.std.proofs.ByRecursion.{All-append, All-weaker}
+use Rattle.std.proofs.lemmas.List.Elements.{recursion_from_All, All-replicate}
 use Rattle.drawn.proofs.FirstFit.{Led}
 use Rattle.std.proofs.lemmas.Bool.{and_parts, or_cases, false≢true}
 use Rattle.std.proofs.lemmas.Bool.Decides.{nat_tests}
@@ -94,8 +95,7 @@ all_joined P g [] h = tt
 all_joined P g (x ∷ xs) h = All-append P (g x) (flat_map g xs) h.0 (all_joined P g xs h.1)
 
 pub all_replicate : {X : Type 0} (P : X → Type 0) (n : ℕ) (x : X) → P x → Each P (replicate n x)
-all_replicate P zero x h = tt
-all_replicate P (suc n) x h = (h, all_replicate P n x h)
+all_replicate P n x h = recursion_from_All P (replicate n x) (All-replicate P n x h)
 
 pub led_joined : {X Y : Type 0} (S : X → X → Type 0) (R : Y → Y → Type 0) (Q : X → Y → Type 0) (g : X → List Y) →
     ((x : X) → S x x) → ((u v : X) (x y : Y) → S u v → Q u x → Q v y → R x y) → ((v : X) → Each (Q v) (g v)) → (vs : List X) → Led S vs → Led R (flat_map g vs)

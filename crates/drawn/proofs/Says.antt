@@ -1,6 +1,6 @@
 -- What the rows say.
 use Rattle.std.proofs.Common.{◌≡◌, ℕ, zero, suc, ◌+◌, ◌-◌, ◌<◌, ◌≤◌, Bool, true, false, cond, not, ◌&&◌, ◌||◌, eqb, ◌≢◌, List, [], ◌∷◌, ◌++◌, map, length, get_or, replicate, filter, sym, refl, ap, ◌∙◌, subst, ap₂, ⊎_elim, zero-add, arith}
-use mathlib.Core.Bool.{and_comm}
+use mathlib.Core.Bool.{and_comm, or_assoc}
 use Rattle.std.specs.List.{range_with_len, flat_map, AllByRecursion as Each}
 use Rattle.ring.specs.Sums.{sum_of, one, count_of, some}
 use Rattle.ring.proofs.Summing.{all_of}
@@ -47,17 +47,13 @@ slot_listed d (s ∷ ss) k (suc j) l h =
     cond_both (has_unit d s) (k ∷ slots_of (k + 1) d ss) (slots_of (k + 1) d ss) (λ r. some (λ x. eqb x (k + suc j)) r ≡ true)
     (λ _. or_right (eqb k (k + suc j)) (some (λ x. eqb x (k + suc j)) (slots_of (k + 1) d ss)) rest) (λ _. rest)
 
-some_append_left : {X : Type 0} (p : X → Bool) (xs ys : List X) → some p xs ≡ true → some p (xs ++ ys) ≡ true
-some_append_left p [] ys h = absurd (false≢true h)
-some_append_left p (x ∷ xs) ys h = ⊎_elim (λ e. or_left (p x) (some p (xs ++ ys)) e) (λ e. or_right (p x) (some p (xs ++ ys)) (some_append_left p xs ys e)) (or_cases (p x) (some p xs) h)
+pub some_append : {X : Type 0} (p : X → Bool) (xs ys : List X) → some p (xs ++ ys) ≡ (some p xs || some p ys)
+some_append p [] ys = refl
+some_append p (x ∷ xs) ys = ap (λ b. p x || b) (some_append p xs ys) ∙ sym (or_assoc (p x) (some p xs) (some p ys))
 
-some_append_right : {X : Type 0} (p : X → Bool) (xs ys : List X) → some p ys ≡ true → some p (xs ++ ys) ≡ true
-some_append_right p [] ys h = h
-some_append_right p (x ∷ xs) ys h = or_right (p x) (some p (xs ++ ys)) (some_append_right p xs ys h)
-
-some_map' : {X Y : Type 0} (p : Y → Bool) (f : X → Y) (xs : List X) → some (λ x. p (f x)) xs ≡ some p (map f xs)
-some_map' p f [] = refl
-some_map' p f (x ∷ xs) = ap (λ b. p (f x) || b) (some_map' p f xs)
+pub some_map : {X Y : Type 0} (p : Y → Bool) (f : X → Y) (xs : List X) → some p (map f xs) ≡ some (λ x. p (f x)) xs
+some_map p f [] = refl
+some_map p f (x ∷ xs) = ap (λ b. p (f x) || b) (some_map p f xs)
 
 -- a demand of the number is in the routes
 abbrev Listed : List Route → Route → Type 0
@@ -67,10 +63,13 @@ row_listed : (ss : List (List Route)) (j : ℕ) → j < length ss → (u : Route
     some (λ (row : Row). eqb row.slot (1 + j)) (flat_map (λ d. map (row_of d) (slots_of 1 d ss)) routes) ≡ true
 row_listed ss j l u h [] q = absurd (false≢true q)
 row_listed ss j l u h (d ∷ ds) q =
-    ⊎_elim
-    (λ e. some_append_left (λ (row : Row). eqb row.slot (1 + j)) (map (row_of d) (slots_of 1 d ss)) (flat_map (λ d. map (row_of d) (slots_of 1 d ss)) ds)
-    (sym (some_map' (λ (row : Row). eqb row.slot (1 + j)) (row_of d) (slots_of 1 d ss)) ∙ slot_listed d ss 1 j l (h d (eqb-true u.demand.number d.demand.number e))))
-    (λ e. some_append_right (λ (row : Row). eqb row.slot (1 + j)) (map (row_of d) (slots_of 1 d ss)) (flat_map (λ d. map (row_of d) (slots_of 1 d ss)) ds) (row_listed ss j l u h ds e))
+    let here : Row → Bool = λ (row : Row). eqb row.slot (1 + j) in
+    let own : List Row = map (row_of d) (slots_of 1 d ss) in
+    let rest : List Row = flat_map (λ d. map (row_of d) (slots_of 1 d ss)) ds in
+    some_append here own rest
+    ∙ ⊎_elim
+    (λ e. or_left (some here own) (some here rest) (some_map here (row_of d) (slots_of 1 d ss) ∙ slot_listed d ss 1 j l (h d (eqb-true u.demand.number d.demand.number e))))
+    (λ e. or_right (some here own) (some here rest) (row_listed ss j l u h ds e))
     (or_cases (eqb u.demand.number d.demand.number) (some (λ d. eqb u.demand.number d.demand.number) ds) q)
 
 itself : (routes : List Route) → Each (Listed routes) routes

@@ -19,7 +19,7 @@ const MOST_UNITS: usize = 1024;
 pub fn is_node(n: u8, v: u8) -> bool
     ensures { result ≡ is_node n v }
 {
-    1 <= v && v <= n
+    (1..=n).contains(&v)
 }
 
 /// The demand with these ends, in either order, if it may be added to these demands on the ring of n nodes; else the first cause why not, in a fixed order: an
@@ -42,7 +42,7 @@ pub fn check_entry(
     if a == b {
         return Err(Refusal::EndsFalling { place: 0 });
     }
-    if units < 1 || units > 48 {
+    if !(1..=48).contains(&units) {
         return Err(Refusal::UnitsOutside { place: 0 });
     }
     if number == 0 || line_of(demands, number).is_some() {

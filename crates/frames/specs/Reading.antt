@@ -11,6 +11,7 @@ use Rattle.frames.specs.declared.FrameFault.TheVariants.{Line, Order, TooFew}
 use Rattle.frames.specs.declared.State.{State}
 use Rattle.frames.specs.declared.State.TheVariants.{Start, Demands, Units, Done}
 use Rattle.frames.specs.declared.Progress.{Progress}
+use Rattle.frames.specs.declared.Contents.{Contents}
 use Rattle.frames.specs.Frames.{frame_of, after}
 
 -- ---- one line
@@ -21,17 +22,17 @@ frame_in line (Err e) = Err (Line e)
 
 -- what the reader knows after a frame, in the state that follows
 abbrev pub noted : Progress → State → Frame → Progress
-noted p s (RingFrame number nodes) = record { state = s; number = number; nodes = nodes; demands = p.demands; units = p.units; said_demands = p.said_demands; said_units = p.said_units; said_slots = p.said_slots }
-noted p s (DemandFrame d) = record { state = s; number = p.number; nodes = p.nodes; demands = p.demands + 1; units = p.units; said_demands = p.said_demands; said_units = p.said_units; said_slots = p.said_slots }
-noted p s (UnitFrame r) = record { state = s; number = p.number; nodes = p.nodes; demands = p.demands; units = p.units + 1; said_demands = p.said_demands; said_units = p.said_units; said_slots = p.said_slots }
-noted p s (EndFrame ds us ss) = record { state = s; number = p.number; nodes = p.nodes; demands = p.demands; units = p.units; said_demands = ds; said_units = us; said_slots = ss }
+noted p s (RingFrame h) = record { state = s; demands = p.demands; units = p.units }
+noted p s (DemandFrame d) = record { state = s; demands = p.demands + 1; units = p.units }
+noted p s (UnitFrame r) = record { state = s; demands = p.demands; units = p.units + 1 }
+noted p s (EndFrame t) = record { state = s; demands = p.demands; units = p.units }
 
 -- a demand or a unit wants a place: where the caller has too few, the count needed is the frame's place among its kind
 abbrev pub placed : ℕ → ℕ → ℕ → Progress → State → Frame → Result Progress FrameFault
-placed forDemands forUnits line p s (RingFrame number nodes) = Ok (noted p s (RingFrame number nodes))
+placed forDemands forUnits line p s (RingFrame h) = Ok (noted p s (RingFrame h))
 placed forDemands forUnits line p s (DemandFrame d) = cond (nat_lt p.demands forDemands) (Ok (noted p s (DemandFrame d))) (Err (TooFew (p.demands + 1) line))
 placed forDemands forUnits line p s (UnitFrame r) = cond (nat_lt p.units forUnits) (Ok (noted p s (UnitFrame r))) (Err (TooFew (p.units + 1) line))
-placed forDemands forUnits line p s (EndFrame ds us ss) = Ok (noted p s (EndFrame ds us ss))
+placed forDemands forUnits line p s (EndFrame t) = Ok (noted p s (EndFrame t))
 
 -- a frame is taken if it may come in this state and has a place
 abbrev pub allowed : ℕ → ℕ → ℕ → Progress → Frame → Option State → Result Progress FrameFault
@@ -48,16 +49,16 @@ took f (Err e) = []
 
 -- ---- a file
 -- a text may end after its end frame; else it stops early, on the line after its last
-abbrev pub stopped : ℕ → Progress → State → Result Progress FrameFault
+abbrev pub stopped : ℕ → Progress → State → Result Contents FrameFault
 stopped line p Start = Err (Order line)
-stopped line p Demands = Err (Order line)
-stopped line p Units = Err (Order line)
-stopped line p Done = Ok p
+stopped line p (Demands h) = Err (Order line)
+stopped line p (Units h) = Err (Order line)
+stopped line p (Done h t) = Ok (record { heading = h; demands = p.demands; units = p.units; totals = t })
 
--- what reading gives: the frames that were taken, and what is known after the last line, or the first fault
+-- what reading gives: the frames that were taken, and what the whole file says, or the first fault
 pub record Reading : Type 0 where
   pub frames : List Frame
-  pub outcome : Result Progress FrameFault
+  pub outcome : Result Contents FrameFault
 
 -- nothing is taken from here on
 abbrev pub refused : FrameFault → Reading
@@ -78,7 +79,7 @@ read_lines forDemands forUnits line p (l ∷ ls) =
 
 -- what is known before the first line
 abbrev pub fresh : Progress
-fresh = record { state = Start; number = 0; nodes = 0; demands = 0; units = 0; said_demands = 0; said_units = 0; said_slots = 0 }
+fresh = record { state = Start; demands = 0; units = 0 }
 
 -- the reading of a text, with so many places for demands and for units
 unfoldable pub reading : ℕ → ℕ → List ℕ → Reading
@@ -87,20 +88,20 @@ reading forDemands forUnits text = read_lines forDemands forUnits 1 fresh (lines
 -- the demands, and the rows, among frames
 abbrev pub demands_in : List Frame → List Demand
 demands_in [] = []
-demands_in (RingFrame number nodes ∷ fs) = demands_in fs
+demands_in (RingFrame h ∷ fs) = demands_in fs
 demands_in (DemandFrame d ∷ fs) = d ∷ demands_in fs
 demands_in (UnitFrame r ∷ fs) = demands_in fs
-demands_in (EndFrame ds us ss ∷ fs) = demands_in fs
+demands_in (EndFrame t ∷ fs) = demands_in fs
 
 abbrev pub rows_in : List Frame → List Row
 rows_in [] = []
-rows_in (RingFrame number nodes ∷ fs) = rows_in fs
+rows_in (RingFrame h ∷ fs) = rows_in fs
 rows_in (DemandFrame d ∷ fs) = rows_in fs
 rows_in (UnitFrame r ∷ fs) = r ∷ rows_in fs
-rows_in (EndFrame ds us ss ∷ fs) = rows_in fs
+rows_in (EndFrame t ∷ fs) = rows_in fs
 
 -- the counts at the end of a file are those of the frames that were taken, and all had places
-pub record Counts (forDemands forUnits : ℕ) (fs : List Frame) (q : Progress) : Type 0 where
+pub record Counts (forDemands forUnits : ℕ) (fs : List Frame) (q : Contents) : Type 0 where
   pub demands : q.demands ≡ length (demands_in fs)
   pub units : q.units ≡ length (rows_in fs)
   pub demands_fit : q.demands ≤ forDemands

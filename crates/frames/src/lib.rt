@@ -10,23 +10,29 @@ ghost use Rattle.frames.specs.Frames.{after};
 use lines::LineFault;
 use ring::{Demand, Row};
 
+/// What a ring frame says: of which book the plan is, and how many nodes its ring has.
+#[derive(Clone, Copy, PartialEq, Eq, Debug)]
+pub struct Heading {
+    pub number: u16,
+    pub nodes: u8,
+}
+
+/// What an end frame says: how many demand frames and unit frames came before, and the slot count.
+#[derive(Clone, Copy, PartialEq, Eq, Debug)]
+pub struct Totals {
+    pub demands: u16,
+    pub units: u16,
+    pub slots: u16,
+}
+
 /// What a line of a plan file says.
 #[derive(Clone, Copy, PartialEq, Eq, Debug)]
 pub enum Frame {
-    /// Of which book the plan is, and how many nodes its ring has.
-    RingFrame {
-        number: u16,
-        nodes: u8,
-    },
+    RingFrame(Heading),
     DemandFrame(Demand),
     /// One row of the plan.
     UnitFrame(Row),
-    /// How many demand frames and unit frames came before, and the slot count.
-    EndFrame {
-        demands: u16,
-        units: u16,
-        slots: u16,
-    },
+    EndFrame(Totals),
 }
 
 /// What is wrong with a line, or with its frame's place in the file.
@@ -50,17 +56,17 @@ impl From<LineFault> for FrameFault {
     }
 }
 
-/// Where a reader stands, which says what may come next.
+/// Where a reader stands, which says what may come next, and what it was told on the way there.
 #[derive(Clone, Copy, PartialEq, Eq, Debug)]
 pub enum State {
     /// Before the ring frame.
     Start,
     /// After the ring frame or a demand frame.
-    Demands,
+    Demands(Heading),
     /// After a unit frame.
-    Units,
+    Units(Heading),
     /// After the end frame.
-    Done,
+    Done(Heading, Totals),
 }
 
 impl State {
@@ -69,26 +75,32 @@ impl State {
         ensures { result ≡ after self frame }
     {
         match (self, frame) {
-            (State::Start, Frame::RingFrame { .. }) => Some(State::Demands),
-            (State::Demands, Frame::DemandFrame(_)) => Some(State::Demands),
-            (State::Demands, Frame::UnitFrame(_)) => Some(State::Units),
-            (State::Demands, Frame::EndFrame { .. }) => Some(State::Done),
-            (State::Units, Frame::UnitFrame(_)) => Some(State::Units),
-            (State::Units, Frame::EndFrame { .. }) => Some(State::Done),
+            (State::Start, Frame::RingFrame(heading)) => Some(State::Demands(heading)),
+            (State::Demands(heading), Frame::DemandFrame(_)) => Some(State::Demands(heading)),
+            (State::Demands(heading), Frame::UnitFrame(_)) => Some(State::Units(heading)),
+            (State::Demands(heading), Frame::EndFrame(totals)) => Some(State::Done(
+                heading, totals,
+            )),
+            (State::Units(heading), Frame::UnitFrame(_)) => Some(State::Units(heading)),
+            (State::Units(heading), Frame::EndFrame(totals)) => Some(State::Done(heading, totals)),
             _ => None,
         }
     }
 }
 
-/// What a reader knows: where it stands, what the ring frame said, how many demands and units came, and what the end frame said.
+/// What a reader knows: where it stands, and how many demands and units came.
 #[derive(Clone, Copy, PartialEq, Eq, Debug)]
 pub struct Progress {
     pub state: State,
-    pub number: u16,
-    pub nodes: u8,
     pub demands: usize,
     pub units: usize,
-    pub said_demands: u16,
-    pub said_units: u16,
-    pub said_slots: u16,
+}
+
+/// What a whole file says besides its demands and rows: its ring frame, how many demands and units came, and its end frame.
+#[derive(Clone, Copy, PartialEq, Eq, Debug)]
+pub struct Contents {
+    pub heading: Heading,
+    pub demands: usize,
+    pub units: usize,
+    pub totals: Totals,
 }

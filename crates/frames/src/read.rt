@@ -5,44 +5,40 @@ ghost use Rattle.lines.specs.Hex.{bytes_of};
 ghost use Rattle.lines.specs.Writes.{overwrite};
 ghost use Rattle.frames.specs.declared.FrameFault.TheVariants.{TooFew};
 ghost use Rattle.frames.specs.Frames.{frame_of};
-ghost use Rattle.frames.specs.Reading.{fresh, taken, took, stopped, reading, demands_in, rows_in, Counts};
+ghost use Rattle.frames.specs.Reading.{taken, took, stopped, reading, demands_in, rows_in, Counts};
 
-use crate::{Frame, FrameFault, Progress, State};
+use crate::{Contents, Frame, FrameFault, Heading, Progress, State, Totals};
 use lines::{decode, next_line};
 use ring::{Demand, Row};
 
-/// The number of two bytes, the high one first.
-fn wide(high: u8, low: u8) -> u16
-    ensures { result ≡ 256 * high + low }
-{
-    256 * u16::from(high) + u16::from(low)
-}
-
 /// The frame that the bytes of a line are.
+// Kept: `TryFrom` has no place for the number of the line, which the fault names.
 pub fn parse(bytes: &[u8], line: usize) -> Result<Frame, FrameFault>
     ensures { result ≡ frame_of line bytes.now }
 {
     match bytes {
-        [1, high, low, nodes] => Ok(Frame::RingFrame {
-            number: wide(*high, *low),
+        [1, high, low, nodes] => Ok(Frame::RingFrame(Heading {
+            number: u16::from_be_bytes([*high, *low]),
             nodes: *nodes,
-        }),
+        })),
         [2, high, low, lower, upper, units] => Ok(Frame::DemandFrame(Demand {
-            number: wide(*high, *low),
+            number: u16::from_be_bytes([*high, *low]),
             lower: *lower,
             upper: *upper,
             units: *units,
         })),
         [3, high, low, side, slot_high, slot_low] => Ok(Frame::UnitFrame(Row {
-            demand: wide(*high, *low),
+            demand: u16::from_be_bytes([*high, *low]),
             side: *side,
-            slot: wide(*slot_high, *slot_low),
+            slot: u16::from_be_bytes([*slot_high, *slot_low]),
         })),
-        [4, high, low, units_high, units_low, slots_high, slots_low] => Ok(Frame::EndFrame {
-            demands: wide(*high, *low),
-            units: wide(*units_high, *units_low),
-            slots: wide(*slots_high, *slots_low),
-        }),
+        [4, high, low, units_high, units_low, slots_high, slots_low] => {
+            Ok(Frame::EndFrame(Totals {
+                demands: u16::from_be_bytes([*high, *low]),
+                units: u16::from_be_bytes([*units_high, *units_low]),
+                slots: u16::from_be_bytes([*slots_high, *slots_low]),
+            }))
+        }
         _ => Err(FrameFault::Form { line }),
     }
 }
@@ -55,12 +51,14 @@ fn frame_of(digits: &[u8], line: usize) -> Result<Frame, FrameFault>
     if count > 7 {
         return Err(FrameFault::Form { line });
     }
+    // Kept: reading a file has no heap, and cannot run out of memory; no frame is longer than these seven bytes.
     let mut bytes = [0u8; 7];
     decode(digits, &mut bytes);
-    parse(&bytes[0..count], line)
+    parse(&bytes[..count], line)
 }
 
 /// Puts a demand or a row into the caller's next place, after so many of its kind, and answers how many there are then.
+// Kept: the places are the caller's, with a count beside them, since reading has no heap in which a Vec could grow.
 fn put_next<T: Copy>(places: &mut [T], count: usize, x: T, line: usize) -> Result<usize, FrameFault>
     requires { count < 2 ^ 63 }
     ensures answer { result ≡ (if nat_lt count (length places.old) then Ok (count + 1) else Err (TooFew (count + 1) line)) }
@@ -95,55 +93,24 @@ fn take_frame(
     };
     let mut q = Progress { state, ..p };
     match frame {
-        Frame::RingFrame { number, nodes } => {
-            q.number = number;
-            q.nodes = nodes;
-        }
         Frame::DemandFrame(d) => q.demands = put_next(demands, q.demands, d, line)?,
         Frame::UnitFrame(r) => q.units = put_next(rows, q.units, r, line)?,
-        Frame::EndFrame {
-            demands,
-            units,
-            slots,
-        } => {
-            q.said_demands = demands;
-            q.said_units = units;
-            q.said_slots = slots;
-        }
+        Frame::RingFrame(_) | Frame::EndFrame(_) => {}
     }
     Ok(q)
 }
 
-/// What a reader knows before the first line.
-fn start() -> Progress
-    ensures { result ≡ fresh }
-{
-    Progress {
-        state: State::Start,
-        number: 0,
-        nodes: 0,
-        demands: 0,
-        units: 0,
-        said_demands: 0,
-        said_units: 0,
-        said_slots: 0,
-    }
-}
-
-/// The number of the line that follows so many lines.
-fn line_after(lines: usize) -> usize
-    requires { lines < 2 ^ 63 }
-    ensures { result ≡ lines + 1 }
-{
-    lines + 1
-}
-
-/// What a reader knows where the text stops, before the line with this number: that has to be after the end frame.
-fn stop(p: Progress, line: usize) -> Result<Progress, FrameFault>
+/// What a file said whose text stops before the line with this number: that has to be after the end frame.
+fn stop(p: Progress, line: usize) -> Result<Contents, FrameFault>
     ensures { result ≡ stopped line p p.state }
 {
     match p.state {
-        State::Done => Ok(p),
+        State::Done(heading, totals) => Ok(Contents {
+            heading,
+            demands: p.demands,
+            units: p.units,
+            totals,
+        }),
         _ => Err(FrameFault::Order { line }),
     }
 }
@@ -154,22 +121,24 @@ pub fn read_file(
     text: &[u8],
     demands: &mut [Demand],
     rows: &mut [Row],
-) -> Result<Progress, FrameFault>
+) -> Result<Contents, FrameFault>
     ensures answer { result ≡ (reading (length demands.old) (length rows.old) text.now).outcome }
     ensures demands { demands.new ≡ overwrite demands.old 0 (demands_in (reading (length demands.old) (length rows.old) text.now).frames) }
     ensures rows { rows.new ≡ overwrite rows.old 0 (rows_in (reading (length demands.old) (length rows.old) text.now).frames) }
     ensures counts { IfOk result (λ q. Counts (length demands.old) (length rows.old) (reading (length demands.old) (length rows.old) text.now).frames q) }
 {
-    let mut p = start();
-    let mut rest = text;
-    let mut lines = 0;
-    while rest.len() > 0 {
-        let line = line_after(lines);
-        let digits = next_line(rest, line)?;
+    let mut p = Progress {
+        state: State::Start,
+        demands: 0,
+        units: 0,
+    };
+    // Kept: the line is counted by hand, since `stop` names the line after the last part, which `enumerate` would not say.
+    let mut line = 1;
+    for part in text.split_inclusive(|c| *c == b'\n') {
+        let digits = next_line(part, line)?;
         let frame = frame_of(digits, line)?;
         p = take_frame(p, frame, line, demands, rows)?;
-        rest = &rest[digits.len() + 1..];
-        lines += 1;
+        line += 1;
     }
-    stop(p, line_after(lines))
+    stop(p, line)
 }

@@ -1,6 +1,7 @@
 -- A report for people and scripts alike: lines of a key and a value. Text is a list of bytes.
-use Rattle.std.specs.Prelude.{ℕ, ◌+◌, ◌/◌, ◌%◌, cond, ◌&&◌, List, [], ◌∷◌, ◌++◌, Some, None, codes, decimal, Option, ◌==◌, nat_le, nat_lt}
+use Rattle.std.specs.Prelude.{ℕ, ◌/◌, ◌%◌, false, cond, ◌&&◌, List, [], ◌∷◌, ◌++◌, Some, None, codes, decimal, Option, ◌==◌, nat_le}
 use Rattle.std.specs.List.{flat_map}
+use Rattle.std.specs.Fmt.{digit_glyph}
 use Rattle.keylines.specs.declared.Key.{Key}
 use Rattle.keylines.specs.declared.Key.TheVariants.{Book, Nodes, Demands, Units, Slots, Refused, Line, Character, Needed, Place, Row, Met}
 use Rattle.keylines.specs.declared.Entry.{Entry}
@@ -45,7 +46,7 @@ spaced ns = flat_map spaced_one ns
 
 -- the lower-case hexadecimal digit of a value below 16
 abbrev pub hex_digit : ℕ → ℕ
-hex_digit v = cond (nat_lt v 10) (48 + v) (87 + v)
+hex_digit v = digit_glyph false v
 
 -- a byte as it is shown: a backslash twice, other printable ASCII as it is, anything else as \xNN
 abbrev pub shown_byte : ℕ → List ℕ

@@ -1,6 +1,6 @@
 -- A line of bytes is well formed, and its bytes read back.
-use Rattle.std.proofs.Common.{◌≡◌, ℕ, ◌+◌, ◌*◌, ◌/◌, ◌%◌, ◌<◌, Bool, true, false, cond, eqb, List, [], ◌∷◌, ◌++◌, map, length, get_or, take, Ok, sym, refl, ap, ◌∙◌, arith}
-use Rattle.std.specs.List.{prefix_len, flat_map, AllByRecursion as Each}
+use Rattle.std.proofs.Common.{◌≡◌, ℕ, ◌+◌, ◌*◌, ◌/◌, ◌%◌, ◌<◌, Bool, true, false, cond, eqb, List, [], ◌∷◌, ◌++◌, length, get_or, take, Ok, sym, refl, ap, ◌∙◌, arith}
+use Rattle.std.specs.List.{prefix_len, AllByRecursion as Each}
 use Rattle.std.proofs.lemmas.Bool.Decides.{nat_tests}
 use Rattle.std.proofs.lemmas.List.{take_at, get_or_at}
 use Rattle.std.proofs.lemmas.Bool.{and_from, eq-eqb, lt-ltb, cond-true}
@@ -67,7 +67,3 @@ lines_text [] rest h = refl
 lines_text (b ∷ bs) rest (h, hs) =
     lines_feed (digit_char (b / 16)) (digit_char (b % 16) ∷ (line_text bs ++ rest)) (char_no_feed (b / 16) (omega arith))
     ∙ ap (ahead (digit_char (b / 16))) (lines_feed (digit_char (b % 16)) (line_text bs ++ rest) (char_no_feed (b % 16) (omega arith)) ∙ ap (ahead (digit_char (b % 16))) (lines_text bs rest hs))
-
-pub lines_joined : (all : List (List ℕ)) → Each (λ bs. Each (λ b. b < 256) bs) all → lines_of (flat_map line_text all) ≡ map line_text all
-lines_joined [] h = refl
-lines_joined (bs ∷ all) (h, hs) = lines_text bs (flat_map line_text all) h ∙ ap (λ ls. line_text bs ∷ ls) (lines_joined all hs)

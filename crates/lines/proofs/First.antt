@@ -1,20 +1,16 @@
 -- The first line of a text, and the rest of it.
-use Rattle.std.proofs.Common.{◌≡◌, ℕ, zero, suc, ◌+◌, ◌-◌, ◌%◌, ◌<◌, ◌≤◌, Bool, true, false, cond, not, ◌&&◌, eqb, ltb, List, [], ◌∷◌, length, get_or, take, drop, Ok, Err, sym, refl, ap, ◌∙◌, inl, inr, add-one, one-add, arith}
-use Rattle.std.specs.List.{prefix_len}
-use Rattle.std.proofs.lemmas.Bool.Decides.{nat_tests}
-use Rattle.std.proofs.lemmas.List.{get_or-take, get_or_past, take-take}
-use Rattle.std.proofs.lemmas.Bool.{eqb-true, eq-eqb, cases_Bool, cases_lt, cond-true, cond-false, and_parts}
+use Rattle.std.proofs.Common.{◌≡◌, ℕ, zero, suc, ◌+◌, ◌-◌, ◌<◌, ◌≤◌, Bool, true, false, not, eqb, List, [], ◌∷◌, ◌++◌, min, length, get_or, take, drop, Option, Some, None, option_map, unwrap_or, slice_get, sym, refl, ap, ◌∙◌, inl, inr, one-add, arith}
+use Rattle.std.specs.List.{prefix_len, slice_split, onto_first, IsFirstMatchOrLen}
+use Rattle.std.proofs.lemmas.List.Sums.{prefix_len_passes, prefix_len_stops, position_or_len_is}
+use Rattle.std.proofs.lemmas.Option.{unwrap_or-slice_get}
+use Rattle.std.proofs.lemmas.List.Splits.{slice_split-cons_yes, slice_split-cons_no}
+use Rattle.std.proofs.lemmas.List.{get_or_past, take_at, take_all, drop_all, append-nil, nil_from_length, length-append}
+use Rattle.std.proofs.Math.Seq.{drop-append_seam}
+use Rattle.std.proofs.lemmas.Bool.{cases_Bool, cases_lt, cond-true, cond-false}
 use Rattle.lines.specs.declared.LineFault.{LineFault}
-use Rattle.lines.specs.Hex.{is_digit, bytes_of}
-use Rattle.lines.specs.Lines.{ahead, lines_of, line_length, digits, formed_at, well_formed, fault_of, line_bytes, unfed, Breaks, Unformed}
+use Rattle.lines.specs.Hex.{is_digit}
+use Rattle.lines.specs.Lines.{ahead, lines_of, line_length, digits, formed_at, fault_of, unfed, Breaks, Unformed}
 use Rattle.lines.proofs.Back.{leading_yes, leading_no}
-
--- a line feed is no digit
-digit_no_feed : (c : ℕ) → is_digit c ≡ true → eqb c 10 ≡ false
-digit_no_feed c h = grind (arith, nat_tests)
-
-feed_no_digit : (c : ℕ) → eqb c 10 ≡ true → is_digit c ≡ false
-feed_no_digit c h = grind (arith, nat_tests)
 
 -- the length of a line, one character on
 length_feed : (c : ℕ) (cs : List ℕ) → eqb c 10 ≡ true → line_length (c ∷ cs) ≡ 0
@@ -22,33 +18,6 @@ length_feed c cs h = leading_no (λ c. not (eqb c 10)) c cs (ap not h)
 
 length_more : (c : ℕ) (cs : List ℕ) → eqb c 10 ≡ false → line_length (c ∷ cs) ≡ 1 + line_length cs
 length_more c cs h = leading_yes (λ c. not (eqb c 10)) c cs (ap not h)
-
--- the digits that a text begins with stand in its first line
-pub digits_le : (text : List ℕ) → digits text ≤ line_length text
-digits_le [] = omega arith
-digits_le (c ∷ cs) = elim (cases_Bool (is_digit c)) [
-  | inl y ↦ omega (arith, leading_yes is_digit c cs y, length_more c cs (digit_no_feed c y), digits_le cs)
-  | inr n ↦ omega (arith, leading_no is_digit c cs n)
-]
-
--- a line feed ends the first line
-pub feed_at : (text : List ℕ) (d : ℕ) → get_or text d 0 ≡ 10 → line_length text ≤ d
-feed_at [] d h = omega arith
-feed_at (c ∷ cs) zero h = omega (arith, length_feed c cs (eq-eqb c 10 h))
-feed_at (c ∷ cs) (suc d) h = elim (cases_Bool (eqb c 10)) [
-  | inl y ↦ omega (arith, length_feed c cs y)
-  | inr n ↦ omega (arith, length_more c cs n, feed_at cs d h)
-]
-
--- the first line has the digits that the text begins with
-pub digits_first : (text : List ℕ) → digits (take (line_length text + 1) text) ≡ digits text
-digits_first [] = refl
-digits_first (c ∷ cs) = elim (cases_Bool (is_digit c)) [
-  | inl y ↦ (let z : line_length (c ∷ cs) + 1 ≡ suc (line_length cs + 1) = omega (arith, length_more c cs (digit_no_feed c y)) in
-      ap (λ n. digits (take n (c ∷ cs))) z ∙ leading_yes is_digit c (take (line_length cs + 1) cs) y ∙ ap (λ n. 1 + n) (digits_first cs) ∙ sym (leading_yes is_digit c cs y))
-  | inr n ↦ (let z : line_length (c ∷ cs) + 1 ≡ suc (line_length (c ∷ cs)) = add-one (line_length (c ∷ cs)) in
-      ap (λ k. digits (take k (c ∷ cs))) z ∙ leading_no is_digit c (take (line_length (c ∷ cs)) cs) n ∙ sym (leading_no is_digit c cs n))
-]
 
 -- the lines of a text are its first line and the lines of what follows it
 ahead_first : (c : ℕ) (cs : List ℕ) → (0 < length cs → lines_of cs ≡ take (line_length cs + 1) cs ∷ lines_of (drop (line_length cs + 1) cs)) → ahead c (lines_of cs) ≡ (c ∷ take (line_length cs + 1) cs) ∷ lines_of (drop (line_length cs + 1) cs)
@@ -64,78 +33,81 @@ lines_first (c ∷ cs) h = elim (cases_Bool (eqb c 10)) [
       cond-false (eqb c 10) ((c ∷ []) ∷ lines_of cs) (ahead c (lines_of cs)) n ∙ ahead_first c cs (lines_first cs) ∙ sym (ap (λ n. take n (c ∷ cs) ∷ lines_of (drop n (c ∷ cs))) z))
 ]
 
--- the first line is read as the text is
-pub bytes_first : (k : ℕ) (text : List ℕ) → line_bytes k (take (line_length text + 1) text) ≡ line_bytes k text
-bytes_first k text =
-    let l = take (line_length text + 1) text in
-    let d = digits text in
-    let below : d < line_length text + 1 = omega (arith, digits_le text) in
-    let within : d ≤ line_length text + 1 = omega arith in
-    let same : digits l ≡ d = digits_first text in
-    let at : get_or l d 0 ≡ get_or text d 0 = get_or-take (line_length text + 1) text d 0 below in
-    let front : take d l ≡ take d text = take-take d (line_length text + 1) text within in
-    ap (λ n. cond (formed_at l n) (Ok (bytes_of (take n l))) (Err (record { line = k; character = n + 1 }))) same
-    ∙ ap (λ c. cond (eqb c 10 && (ltb 0 d && eqb (d % 2) 0)) (Ok (bytes_of (take d l))) (Err (fault_of k text))) at
-    ∙ ap (λ t. cond (well_formed text) (Ok (bytes_of t)) (Err (fault_of k text))) front
-
--- what follows a first line that is well formed
-pub rest_first : (text : List ℕ) → well_formed text ≡ true → line_length text ≡ digits text
-rest_first text h =
-    let feed : get_or text (digits text) 0 ≡ 10 = eqb-true (get_or text (digits text) 0) 10 (and_parts (eqb (get_or text (digits text) 0) 10) (ltb 0 (digits text) && eqb (digits text % 2) 0) h).0 in
-    omega (arith, digits_le text, feed_at text (digits text) feed)
-
--- its line feed stands past its digits
-pub formed_below : (text : List ℕ) → well_formed text ≡ true → digits text < length text
-formed_below text h =
-    let feed : get_or text (digits text) 0 ≡ 10 = eqb-true (get_or text (digits text) 0) 10 (and_parts (eqb (get_or text (digits text) 0) 10) (ltb 0 (digits text) && eqb (digits text % 2) 0) h).0 in
-    elim (cases_lt (digits text) (length text)) [ inl l ↦ l | inr l ↦ absurd (omega (arith, get_or_past text (digits text) 0 l)) ]
-
--- the first line without its line feed
-pub length_first : (text : List ℕ) → line_length (take (line_length text + 1) text) ≡ line_length text
-length_first [] = refl
-length_first (c ∷ cs) = elim (cases_Bool (eqb c 10)) [
-  | inl y ↦ (let z : line_length (c ∷ cs) + 1 ≡ suc (line_length (c ∷ cs)) = add-one (line_length (c ∷ cs)) in
-      ap (λ k. line_length (take k (c ∷ cs))) z ∙ length_feed c (take (line_length (c ∷ cs)) cs) y ∙ sym (length_feed c cs y))
-  | inr n ↦ (let z : line_length (c ∷ cs) + 1 ≡ suc (line_length cs + 1) = omega (arith, length_more c cs n) in
-      ap (λ k. line_length (take k (c ∷ cs))) z ∙ length_more c (take (line_length cs + 1) cs) n ∙ ap (λ k. 1 + k) (length_first cs) ∙ sym (length_more c cs n))
+-- the front of a text up to a place where its first part ends, or past the whole text, and what follows
+front_is : (text part rest : List ℕ) (n : ℕ) → text ≡ part ++ rest → length part ≤ n → (length part < n → length part ≡ length text) → take n text ≡ part
+front_is text part rest n e le past = elim (cases_lt (length part) n) [
+  | inl l ↦ (let none : length rest ≡ 0 = omega (arith, past l, ap length e, length-append part rest) in
+      take_all n text (omega (arith, past l)) ∙ e ∙ ap (λ r. part ++ r) (nil_from_length rest none) ∙ append-nil part)
+  | inr m ↦ ap (take n) e ∙ take_at part rest n (omega arith)
 ]
 
-pub first_is : (text : List ℕ) → unfed (get_or (lines_of text) 0 []) ≡ take (line_length text) text
-first_is [] = refl
-first_is (c ∷ cs) =
-    let text = c ∷ cs in
-    let l = take (line_length text + 1) text in
-    let within : line_length text ≤ line_length text + 1 = omega arith in
-    ap (λ (ls : List (List ℕ)). unfed (get_or ls 0 [])) (lines_first text (omega arith))
-    ∙ ap (λ n. take n l) (length_first text)
-    ∙ take-take (line_length text) (line_length text + 1) text within
+back_is : (text part rest : List ℕ) (n : ℕ) → text ≡ part ++ rest → length part ≤ n → (length part < n → length part ≡ length text) → drop n text ≡ rest
+back_is text part rest n e le past = elim (cases_lt (length part) n) [
+  | inl l ↦ (let none : length rest ≡ 0 = omega (arith, past l, ap length e, length-append part rest) in
+      drop_all n text (omega (arith, past l)) ∙ sym (nil_from_length rest none))
+  | inr m ↦ ap (drop n) e ∙ (ap (λ k. drop k (part ++ rest)) (let z : n ≡ length part = omega arith in z) ∙ drop-append_seam part rest)
+]
 
--- a later line is a line of what follows the first
-pub later_is : (text : List ℕ) (k : ℕ) → get_or (lines_of text) (suc k) [] ≡ get_or (lines_of (drop (line_length text + 1) text)) k []
-later_is [] k = refl
-later_is (c ∷ cs) k = ap (λ (ls : List (List ℕ)). get_or ls (suc k) []) (lines_first (c ∷ cs) (omega arith))
+-- a text is its first line, which a part that ends with the first line feed is, and the lines of what follows
+pub lines_parted : (text part rest : List ℕ) (i : ℕ) → text ≡ part ++ rest → length part ≡ min (i + 1) (length text) → IsFirstMatchOrLen (λ c. eqb c 10) text i → 0 < length text → lines_of text ≡ part ∷ lines_of rest
+lines_parted text part rest i e long here some =
+    let n : line_length text ≡ min i (length text) = elim (cases_lt i (length text)) [
+      | inl l ↦ omega (arith, position_or_len_is (λ c. eqb c 10) text i 0 (omega arith) (λ k b. here.0 k 0 (omega arith) b) (λ b. here.1 l 0))
+      | inr past ↦ omega (arith, position_or_len_is (λ c. eqb c 10) text (length text) 0 (omega arith) (λ k b. here.0 k 0 (omega arith) (omega arith)) (λ b. absurd (omega arith)))
+    ] in
+    let front : take (line_length text + 1) text ≡ part = front_is text part rest (line_length text + 1) e (omega arith) (λ l. omega arith) in
+    let back : drop (line_length text + 1) text ≡ rest = back_is text part rest (line_length text + 1) e (omega arith) (λ l. omega arith) in
+    lines_first text some ∙ ap (λ l. l ∷ lines_of (drop (line_length text + 1) text)) front ∙ ap (λ r. part ∷ lines_of r) back
 
-pub line_next : (text : List ℕ) (n : ℕ) → 0 < n → get_or (lines_of text) n [] ≡ get_or (lines_of (drop (line_length text + 1) text)) (n - 1) []
-line_next text zero h = absurd (omega arith)
-line_next text (suc k) h = let e : k ≡ suc k - 1 = omega arith in later_is text k ∙ ap (λ m. get_or (lines_of (drop (line_length text + 1) text)) m []) e
+-- a text cut at each line feed has its lines, without their line feeds
+onto_head : (c : ℕ) (parts : List (List ℕ)) → get_or (onto_first c parts) 0 [] ≡ c ∷ get_or parts 0 []
+onto_head c [] = refl
+onto_head c (l ∷ ls) = refl
 
--- the character of a fault is the first that breaks the form
-leading_before : (p : ℕ → Bool) (xs : List ℕ) (k : ℕ) → k < prefix_len p xs → p (get_or xs k 0) ≡ true
-leading_before p [] k h = absurd (omega arith)
-leading_before p (x ∷ xs) k h = elim (cases_Bool (p x)) [
-  | inl y ↦ at k y h (λ (j : ℕ) (l : j < prefix_len p xs). leading_before p xs j l)
-  | inr n ↦ absurd (omega (arith, leading_no p x xs n))
+onto_later : (c : ℕ) (parts : List (List ℕ)) (k : ℕ) → get_or (onto_first c parts) (suc k) [] ≡ get_or parts (suc k) []
+onto_later c [] k = refl
+onto_later c (l ∷ ls) k = refl
+
+ahead_head : (c : ℕ) (ls : List (List ℕ)) → get_or (ahead c ls) 0 [] ≡ c ∷ get_or ls 0 []
+ahead_head c [] = refl
+ahead_head c (l ∷ ls) = refl
+
+ahead_later : (c : ℕ) (ls : List (List ℕ)) (k : ℕ) → get_or (ahead c ls) (suc k) [] ≡ get_or ls (suc k) []
+ahead_later c [] k = refl
+ahead_later c (l ∷ ls) k = refl
+
+unfed_more : (c : ℕ) (l : List ℕ) → eqb c 10 ≡ false → unfed (c ∷ l) ≡ c ∷ unfed l
+unfed_more c l n = ap (λ k. take k (c ∷ l)) (length_more c l n ∙ one-add (line_length l))
+
+unfed_feed : (c : ℕ) (l : List ℕ) → eqb c 10 ≡ true → unfed (c ∷ l) ≡ []
+unfed_feed c l y = ap (λ k. take k (c ∷ l)) (length_feed c l y)
+
+pub cut_is : (text : List ℕ) (k : ℕ) → get_or (slice_split (λ c. eqb c 10) text) k [] ≡ unfed (get_or (lines_of text) k [])
+cut_is [] zero = refl
+cut_is [] (suc k) = refl
+cut_is (c ∷ cs) k = elim (cases_Bool (eqb c 10)) [
+  | inl y ↦ ap (λ (ps : List (List ℕ)). get_or ps k []) (slice_split-cons_yes (λ c. eqb c 10) c cs y) ∙ feed k y (λ j. cut_is cs j) ∙ sym (ap (λ (ls : List (List ℕ)). unfed (get_or ls k [])) (cond-true (eqb c 10) ((c ∷ []) ∷ lines_of cs) (ahead c (lines_of cs)) y))
+  | inr n ↦ ap (λ (ps : List (List ℕ)). get_or ps k []) (slice_split-cons_no (λ c. eqb c 10) c cs n) ∙ more k n (λ j. cut_is cs j) ∙ sym (ap (λ (ls : List (List ℕ)). unfed (get_or ls k [])) (cond-false (eqb c 10) ((c ∷ []) ∷ lines_of cs) (ahead c (lines_of cs)) n))
 ]
   where
-    at : (k : ℕ) → p x ≡ true → k < prefix_len p (x ∷ xs) → ((j : ℕ) → j < prefix_len p xs → p (get_or xs j 0) ≡ true) → p (get_or (x ∷ xs) k 0) ≡ true
-    at zero y l more = y
-    at (suc j) y l more = more j (omega (arith, leading_yes p x xs y))
+    feed : (k : ℕ) → eqb c 10 ≡ true → ((j : ℕ) → get_or (slice_split (λ c. eqb c 10) cs) j [] ≡ unfed (get_or (lines_of cs) j [])) → get_or ([] ∷ slice_split (λ c. eqb c 10) cs) k [] ≡ unfed (get_or ((c ∷ []) ∷ lines_of cs) k [])
+    feed zero y rest = sym (unfed_feed c [] y)
+    feed (suc k) y rest = rest k
 
+    more : (k : ℕ) → eqb c 10 ≡ false → ((j : ℕ) → get_or (slice_split (λ c. eqb c 10) cs) j [] ≡ unfed (get_or (lines_of cs) j [])) → get_or (onto_first c (slice_split (λ c. eqb c 10) cs)) k [] ≡ unfed (get_or (ahead c (lines_of cs)) k [])
+    more zero n rest = onto_head c (slice_split (λ c. eqb c 10) cs) ∙ ap (λ l. c ∷ l) (rest 0) ∙ sym (unfed_more c (get_or (lines_of cs) 0 []) n) ∙ sym (ap unfed (ahead_head c (lines_of cs)))
+    more (suc k) n rest = onto_later c (slice_split (λ c. eqb c 10) cs) k ∙ rest (suc k) ∙ sym (ap unfed (ahead_later c (lines_of cs) k))
+
+-- the part with a number, shown through f, or none where there are fewer
+pub part_is : {A : Type 0} (f : A → List ℕ) (o : Option A) (d : A) (parts : List (List ℕ)) (k : ℕ) → option_map f o ≡ slice_get parts k → f d ≡ [] → f (unwrap_or o d) ≡ get_or parts k []
+part_is f (Some x) d parts k e z = ap (λ o. unwrap_or o []) e ∙ unwrap_or-slice_get parts k []
+part_is f None d parts k e z = z ∙ ap (λ o. unwrap_or o []) e ∙ unwrap_or-slice_get parts k []
+
+-- the character of a fault is the first that breaks the form
 leading_here : (p : ℕ → Bool) (xs : List ℕ) → p 0 ≡ false → p (get_or xs (prefix_len p xs) 0) ≡ false
-leading_here p [] z = z
-leading_here p (x ∷ xs) z = elim (cases_Bool (p x)) [
-  | inl y ↦ ap (λ n. p (get_or (x ∷ xs) n 0)) (leading_yes p x xs y ∙ one-add (prefix_len p xs)) ∙ leading_here p xs z
-  | inr n ↦ ap (λ k. p (get_or (x ∷ xs) k 0)) (leading_no p x xs n) ∙ n
+leading_here p xs z = elim (cases_lt (prefix_len p xs) (length xs)) [
+  | inl l ↦ prefix_len_stops p xs 0 l
+  | inr past ↦ ap p (get_or_past xs (prefix_len p xs) 0 past) ∙ z
 ]
 
 zero_no_digit : is_digit 0 ≡ false
@@ -145,7 +117,7 @@ pub breaks_here : (text : List ℕ) (character : ℕ) → character ≡ digits t
 breaks_here text character e =
     let z : character - 1 ≡ digits text = omega arith in
     record {
-      before = λ k l. leading_before is_digit text k (omega arith);
+      before = λ k l. prefix_len_passes is_digit text k 0 (omega arith);
       here = ap (λ n. is_digit (get_or text n 0)) z ∙ leading_here is_digit text zero_no_digit;
     }
 

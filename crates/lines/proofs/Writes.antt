@@ -1,8 +1,8 @@
 -- Lists written over places, and the lines and bytes written so.
-use Rattle.std.proofs.Common.{◌≡◌, ℕ, suc, ◌+◌, ◌*◌, ◌/◌, ◌%◌, ◌<◌, ◌≤◌, List, [], ◌∷◌, ◌++◌, length, get_or, take, drop, set, sym, refl, ap, ◌∙◌, arith}
-use Rattle.std.proofs.lemmas.List.{length-drop, length-set, take_more_set, drop-set-lt, append_assoc, take-append-drop, at_drop_more, at_drop_all}
-use Rattle.lines.specs.Hex.{digit_char, value_of, bytes_of}
-use Rattle.lines.specs.Lines.{line_text}
+use Rattle.std.proofs.Common.{◌≡◌, ℕ, suc, ◌+◌, ◌*◌, ◌/◌, ◌<◌, ◌≤◌, List, [], ◌∷◌, ◌++◌, map, length, get_or, take, drop, set, sym, refl, ap, ◌∙◌, arith}
+use Rattle.std.proofs.lemmas.List.{length-set, take_more_set, drop-set-lt, append_assoc, take-append-drop}
+use Rattle.std.specs.Simd.{first_chunks}
+use Rattle.lines.specs.Hex.{value_of, bytes_of}
 use Rattle.lines.specs.Writes.{overwrite}
 
 -- one list after another
@@ -30,37 +30,17 @@ over_is old at (x ∷ xs) h =
     ∙ ap (λ n. take at old ++ (x ∷ (xs ++ drop n (set old at x)))) z
     ∙ ap (λ r. take at old ++ (x ∷ (xs ++ r))) (drop-set-lt (at + suc (length xs)) old at x past)
 
--- one more byte of a line, and its end
-pub line_more : (bytes : List ℕ) (place : ℕ) (frame : List ℕ) (i h l : ℕ) → i < length frame → h ≡ digit_char (get_or frame i 0 / 16) → l ≡ digit_char (get_or frame i 0 % 16) → overwrite (set (set bytes place h) (place + 1) l) (place + 2) (line_text (drop (i + 1) frame)) ≡ overwrite bytes place (line_text (drop i frame))
-line_more bytes place frame i h l lt e k =
-    let z : place + 2 ≡ place + 1 + 1 = omega arith in
-    ap (λ n. overwrite (set (set bytes place h) (place + 1) l) n (line_text (drop (i + 1) frame))) z
-    ∙ ap (λ c. overwrite (set (set bytes place c) (place + 1) l) (place + 1 + 1) (line_text (drop (i + 1) frame))) e
-    ∙ ap (λ c. overwrite (set (set bytes place (digit_char (get_or frame i 0 / 16))) (place + 1) c) (place + 1 + 1) (line_text (drop (i + 1) frame))) k
-    ∙ sym (at_drop_more (λ ds. overwrite bytes place (line_text ds)) frame i 0 lt)
+-- the byte of two digits
+abbrev pub byte_at : List ℕ → ℕ
+byte_at pair = 16 * value_of (get_or pair 0 0) + value_of (get_or pair 1 0)
 
-pub line_all : (bytes : List ℕ) (place : ℕ) (frame : List ℕ) (i : ℕ) → length frame ≤ i → set bytes place 10 ≡ overwrite bytes place (line_text (drop i frame))
-line_all bytes place frame i le = sym (at_drop_all (λ ds. overwrite bytes place (line_text ds)) frame i le)
-
--- one more byte of digits, and the end
-pub bytes_more : (bytes : List ℕ) (ds : List ℕ) (k v : ℕ) → 2 * k + 1 < length ds → v ≡ 16 * value_of (get_or ds (2 * k) 0) + value_of (get_or ds (2 * k + 1) 0) → overwrite (set bytes k v) (k + 1) (bytes_of (drop (2 * (k + 1)) ds)) ≡ overwrite bytes k (bytes_of (drop (2 * k) ds))
-bytes_more bytes ds k v lt e =
-    let z : 2 * (k + 1) ≡ 2 * k + 1 + 1 = omega arith in
-    let one : 2 * k < length ds = omega arith in
-    ap (λ n. overwrite (set bytes k v) (k + 1) (bytes_of (drop n ds))) z
-    ∙ ap (λ x. overwrite (set bytes k x) (k + 1) (bytes_of (drop (2 * k + 1 + 1) ds))) e
-    ∙ sym (at_drop_more (λ (ys : List ℕ). overwrite bytes k (bytes_of (get_or ds (2 * k) 0 ∷ ys))) ds (2 * k + 1) 0 lt)
-    ∙ sym (at_drop_more (λ (ys : List ℕ). overwrite bytes k (bytes_of ys)) ds (2 * k) 0 one)
-
-bytes_none : (ds : List ℕ) → length ds ≤ 1 → bytes_of ds ≡ []
-bytes_none [] h = refl
-bytes_none (d ∷ []) h = refl
-bytes_none (d ∷ e ∷ ds) h = absurd (omega arith)
-
-pub bytes_all : (bytes : List ℕ) (ds : List ℕ) (k : ℕ) → length ds / 2 ≤ k → bytes ≡ overwrite bytes k (bytes_of (drop (2 * k) ds))
-bytes_all bytes ds k le =
-    let few : length (drop (2 * k) ds) ≤ 1 = omega (arith, length-drop (2 * k) ds) in
-    sym (ap (overwrite bytes k) (bytes_none (drop (2 * k) ds) few))
+-- digits two by two are their bytes
+pub bytes_of_pairs : (ds : List ℕ) → map byte_at (first_chunks 2 (length ds / 2) ds) ≡ bytes_of ds
+bytes_of_pairs [] = refl
+bytes_of_pairs (d ∷ []) = refl
+bytes_of_pairs (d ∷ e ∷ ds) =
+    let z : length (d ∷ e ∷ ds) / 2 ≡ suc (length ds / 2) = omega arith in
+    ap (λ n. map byte_at (first_chunks 2 n (d ∷ e ∷ ds))) z ∙ ap (λ bs. (16 * value_of d + value_of e) ∷ bs) (bytes_of_pairs ds)
 
 -- two digits a byte
 pub length_bytes_of : (ds : List ℕ) → length (bytes_of ds) ≡ length ds / 2

@@ -1,6 +1,6 @@
 -- The lines of a text, and the form that a line has to have. A character is its code; 10 is the line feed.
-use Rattle.std.specs.Prelude.{◌≡◌, ℕ, ◌+◌, ◌-◌, ◌%◌, ◌<◌, Bool, true, false, cond, not, ◌&&◌, List, [], ◌∷◌, ◌++◌, length, take, Ok, Err, Result, ◌==◌, nat_lt, slice_index, slice_index_or}
-use Rattle.std.specs.List.{prefix_len}
+use Rattle.std.specs.Prelude.{◌≡◌, ℕ, ◌+◌, ◌-◌, ◌%◌, ◌<◌, Bool, true, false, cond, ◌&&◌, List, [], ◌∷◌, ◌++◌, length, take, Ok, Err, Result, ◌==◌, nat_lt, slice_index, slice_index_or}
+use Rattle.std.specs.List.{prefix_len, position_or_len}
 use Rattle.lines.specs.declared.LineFault.{LineFault}
 use Rattle.lines.specs.Hex.{is_digit, hex_of, bytes_of}
 
@@ -17,7 +17,7 @@ lines_of (c ∷ cs) = cond (c == 10) ((c ∷ []) ∷ lines_of cs) (ahead c (line
 
 -- how many characters stand before the first line feed, or in all where there is none
 abbrev pub line_length : List ℕ → ℕ
-line_length text = prefix_len (λ c. not (c == 10)) text
+line_length text = position_or_len (λ c. c == 10) text
 
 -- a line without its line feed
 abbrev pub unfed : List ℕ → List ℕ

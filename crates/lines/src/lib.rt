@@ -16,6 +16,7 @@ pub struct LineFault {
 // ---- digits
 
 /// The character of a value below 16.
+// Kept: `char::from_digit` answers an Option of a `char`, which would be unwrapped and made a byte again.
 pub fn digit_char(value: u8) -> u8
     requires { value < 16 }
     ensures { result ≡ digit_char value }
@@ -28,6 +29,7 @@ pub fn digit_char(value: u8) -> u8
 }
 
 /// The value of a digit's character, 0 of any other.
+// Kept: an Option would be no plainer, since `decode` is for digits alone, and its only caller here would write `unwrap_or(0)` twice.
 pub fn digit_value(character: u8) -> u8
     ensures value { result ≡ value_of character }
     ensures small { result < 16 }
@@ -43,10 +45,7 @@ pub fn digit_value(character: u8) -> u8
 pub fn is_digit(character: u8) -> bool
     ensures { result ≡ is_digit character }
 {
-    match character {
-        b'0'..=b'9' | b'a'..=b'f' => true,
-        _ => false,
-    }
+    matches!(character, b'0'..=b'9' | b'a'..=b'f')
 }
 
 /// The byte of two digits, the higher first.
@@ -77,12 +76,7 @@ fn count_digits(text: &[u8]) -> usize
     ensures within { result ≤ length text.now }
     ensures value { result ≡ digit_count text.now }
 {
-    for (i, c) in text.iter().enumerate() {
-        if !is_digit(*c) {
-            return i;
-        }
-    }
-    text.len()
+    text.iter().take_while(|c| is_digit(**c)).count()
 }
 
 /// Whether a line may end after so many digits, with this character next: a line feed, after an even number of digits that is not 0.
@@ -97,21 +91,7 @@ fn is_formed(text: &[u8], count: usize) -> bool
     ensures value { result ≡ formed_at text.now count }
     ensures below { result ≡ true → count < length text.now }
 {
-    if count >= text.len() {
-        return false;
-    }
-    ends_line(text[count], count)
-}
-
-/// The fault of a line that breaks off after so many digits: the character after them.
-fn fault_after(line: usize, count: usize) -> LineFault
-    requires { count < 2 ^ 63 }
-    ensures { result ≡ record { line = line; character = count + 1 } }
-{
-    LineFault {
-        line,
-        character: count + 1,
-    }
+    text.get(count).is_some_and(|next| ends_line(*next, count))
 }
 
 /// The digits of the line that a text begins with, which has this number, or what is wrong with the line.
@@ -120,9 +100,12 @@ pub fn next_line(text: &[u8], line: usize) -> Result<&[u8], LineFault>
 {
     let count = count_digits(text);
     if !is_formed(text, count) {
-        return Err(fault_after(line, count));
+        return Err(LineFault {
+            line,
+            character: count + 1,
+        });
     }
-    Ok(&text[0..count])
+    Ok(&text[..count])
 }
 
 /// Writes the bytes that digits stand for into the front of `bytes`.
@@ -130,22 +113,14 @@ pub fn decode(digits: &[u8], bytes: &mut [u8])
     requires { length digits.now / 2 ≤ length bytes.old }
     ensures { bytes.new ≡ overwrite bytes.old 0 (bytes_of digits.now) }
 {
-    for k in 0..digits.len() / 2 {
-        bytes[k] = byte_of(digits[2 * k], digits[2 * k + 1]);
+    let (pairs, _) = digits.as_chunks::<2>();
+    // Kept: over `bytes.iter_mut().zip(pairs)`, a proof knows nothing of what the loop wrote, since no name there stands for the bytes.
+    for (k, [high, low]) in pairs.iter().enumerate() {
+        bytes[k] = byte_of(*high, *low);
     }
 }
 
 // ---- writing a line
-
-/// Writes the line feed that ends a line, and answers the place after it.
-fn put_feed(bytes: &mut [u8], place: usize) -> usize
-    requires { place < length bytes.old }
-    ensures written { bytes.new ≡ slice_set bytes.old place 10 }
-    ensures next { result ≡ place + 1 }
-{
-    bytes[place] = b'\n';
-    place + 1
-}
 
 /// Writes the line of some bytes from a place on, and answers the place after it.
 pub fn put_line(bytes: &mut [u8], at: usize, frame: &[u8]) -> usize
@@ -153,63 +128,23 @@ pub fn put_line(bytes: &mut [u8], at: usize, frame: &[u8]) -> usize
     ensures written { bytes.new ≡ overwrite bytes.old at (line_text frame.now) }
     ensures next { result ≡ at + (2 * length frame.now + 1) }
 {
-    let mut place = at;
-    for b in frame {
-        bytes[place] = high_digit(*b);
-        bytes[place + 1] = low_digit(*b);
-        place += 2;
+    // Kept: the digits are written by place into the caller's bytes, as in `decode`; `write!` would ask for text that can grow.
+    for (k, b) in frame.iter().enumerate() {
+        bytes[at + 2 * k] = high_digit(*b);
+        bytes[at + 2 * k + 1] = low_digit(*b);
     }
-    put_feed(bytes, place)
+    let end = at + 2 * frame.len();
+    bytes[end] = b'\n';
+    end + 1
 }
 
 // ---- showing a line
-
-/// How many characters stand before the first line feed.
-fn line_length(text: &[u8]) -> usize
-    ensures within { result ≤ length text.now }
-    ensures value { result ≡ line_length text.now }
-{
-    for (i, c) in text.iter().enumerate() {
-        if *c == b'\n' {
-            return i;
-        }
-    }
-    text.len()
-}
-
-/// The first line of a text, without its line feed.
-fn first_line(text: &[u8]) -> &[u8]
-    ensures { result.now ≡ take (line_length text.now) text.now }
-{
-    let end = line_length(text);
-    &text[0..end]
-}
-
-/// The text after the first line feed.
-fn after_line(text: &[u8]) -> &[u8]
-    ensures { result.now ≡ drop (line_length text.now + 1) text.now }
-{
-    let end = line_length(text);
-    if end == text.len() {
-        return &text[end..];
-    }
-    &text[end + 1..]
-}
-
-/// How many lines stand before the line with a number, counted from 1.
-fn lines_before(line: usize) -> usize
-    ensures { result ≡ line - 1 }
-{
-    if line == 0 { 0 } else { line - 1 }
-}
 
 /// The line with a number, counted from 1, as the very part of the text, without its line feed; it is empty past the last line.
 pub fn fault_line(text: &[u8], line: usize) -> &[u8]
     ensures { result.now ≡ line_at text.now line }
 {
-    let mut rest = text;
-    for _k in 0..lines_before(line) {
-        rest = after_line(rest);
-    }
-    first_line(rest)
+    text.split(|c| *c == b'\n')
+        .nth(line.saturating_sub(1))
+        .unwrap_or(&[])
 }

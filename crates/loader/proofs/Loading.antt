@@ -6,7 +6,7 @@ use Rattle.refusals.specs.declared.Refusal.{Refusal}
 use Rattle.refusals.specs.declared.Refusal.TheVariants.{SlipUnknown}
 use Rattle.ring.specs.declared.Row.{Row}
 use Rattle.ring.proofs.Limits.{to_limits}
-use Rattle.handouts.specs.Fronts.{in_front}
+use Rattle.planwrite.specs.Fronts.{fronted}
 use Rattle.booklaw.specs.Books.{State, is_out, node_rows}
 use Rattle.booklaw.specs.Calls.{Issue, HandBack, Outcome, as_loaded, as_returned, Answer, accepted, refused, unless, answer, changed, settled, after, with_slips}
 use Rattle.booklaw.proofs.Passing.{issue_passed}
@@ -26,7 +26,7 @@ module _ (b out : Book) (node : ℕ) (d : Does b (Issue node) accepted out) wher
 
   -- what the issue leaves
   marked : State
-  marked = with_slips (state b) (set b.out node true) (b.issued + 1) b.loaded b.returned
+  marked = with_slips (state b) (set b.out node true) (b.counts.issued + 1) b.counts.loaded b.counts.returned
 
   issued_is : state out ≡ marked
   unfolding marked
@@ -52,13 +52,13 @@ module _ (b out : Book) (node : ℕ) (d : Does b (Issue node) accepted out) wher
       e.leaves ∙ ap (λ s. after s (HandBack how b.number node)) issued_is
       ∙ ap (λ q. settled q marked (changed marked (HandBack how b.number node))) (known how)
 
-  pub left_loaded : (r : Answer) (b' : Book) → Does out (HandBack as_loaded b.number node) r b' → state b' ≡ with_slips (state b) b.out (b.issued + 1) (b.loaded + 1) b.returned
+  pub left_loaded : (r : Answer) (b' : Book) → Does out (HandBack as_loaded b.number node) r b' → state b' ≡ with_slips (state b) b.out (b.counts.issued + 1) (b.counts.loaded + 1) b.counts.returned
   unfolding marked
-  left_loaded r b' e = left_by as_loaded r b' e ∙ ap (λ o. with_slips (state b) o (b.issued + 1) (b.loaded + 1) b.returned) unmarked
+  left_loaded r b' e = left_by as_loaded r b' e ∙ ap (λ o. with_slips (state b) o (b.counts.issued + 1) (b.counts.loaded + 1) b.counts.returned) unmarked
 
-  pub left_returned : (r : Answer) (b' : Book) → Does out (HandBack as_returned b.number node) r b' → state b' ≡ with_slips (state b) b.out (b.issued + 1) b.loaded (b.returned + 1)
+  pub left_returned : (r : Answer) (b' : Book) → Does out (HandBack as_returned b.number node) r b' → state b' ≡ with_slips (state b) b.out (b.counts.issued + 1) b.counts.loaded (b.counts.returned + 1)
   unfolding marked
-  left_returned r b' e = left_by as_returned r b' e ∙ ap (λ o. with_slips (state b) o (b.issued + 1) b.loaded (b.returned + 1)) unmarked
+  left_returned r b' e = left_by as_returned r b' e ∙ ap (λ o. with_slips (state b) o (b.counts.issued + 1) b.counts.loaded (b.counts.returned + 1)) unmarked
 
   -- the rows of the node are the same as before the issue
   pub same_rows : node_rows (demands_in out) (rows_in out) node ≡ node_rows (demands_in b) (rows_in b) node
@@ -81,13 +81,13 @@ module _ (b out : Book) (node : ℕ) (d : Does b (Issue node) accepted out) wher
 
     -- the node was loaded
     pub is_loaded : (read : Slip) → read ≡ now_read slip → (count : ℕ) (old new : List Row) → count ≡ length (node_rows (demands_in out) (rows_in out) slip.node) →
-        new ≡ in_front (node_rows (demands_in out) (rows_in out) slip.node) old → (r : Answer) (b' : Book) → Does out (HandBack as_loaded read.book read.node) r b' →
+        new ≡ fronted (node_rows (demands_in out) (rows_in out) slip.node) old → (r : Answer) (b' : Book) → Does out (HandBack as_loaded read.book read.node) r b' →
         Loaded (state b) (state b') node count old new
     is_loaded read now-is count old new counted handed r b' e =
         let e' = subst (λ (x : Slip). Does out (HandBack as_loaded x.book x.node) r b') now-is e in
         record {
           counted = counted ∙ ap length rows_are;
-          handed = handed ∙ ap (λ rows. in_front rows old) rows_are;
+          handed = handed ∙ ap (λ rows. fronted rows old) rows_are;
           left = left_loaded r b' (as_issued as_loaded r b' e');
         }
 

@@ -6,13 +6,12 @@
 ghost use Rattle.std.specs.Prelude.{◌≡◌};
 ghost use Rattle.loader_demo.specs.Clockwise.{all_clockwise, clockwise_parallel, clockwise_elsewhere};
 
-use anyhow::anyhow;
-use book::StartFault;
 use book::book::Book;
 use booklaw::{Card, Drawing};
 use loader::load_node;
 use ring::{Refusal, Row, Side};
 use rules::Rule;
+use std::fmt;
 
 /// Sends everything clockwise. The last link of the ring stays empty.
 struct AllClockwise;
@@ -29,44 +28,45 @@ impl Rule for AllClockwise {
     }
 }
 
-/// A place for a row, to be filled.
-const NO_ROW: Row = Row {
-    demand: 0,
-    side: 0,
-    slot: 0,
-};
+/// The card of a plan, as it is printed.
+#[derive(Drop)]
+struct Summary(Card);
 
-/// Prints what a call answered that gives nothing back.
-fn print_answer(rt: &HostRuntime, call: &str, answer: Result<(), Refusal>) -> anyhow::Result<()> {
+impl fmt::Display for Summary {
+    fn fmt<W: fmt::Write>(&self, f: &mut fmt::Formatter<W>) -> fmt::Result {
+        let Summary(card) = self;
+        write!(f, "{} slots; ", card.figures.slots)?;
+        write!(
+            f,
+            "heaviest cut ({}, {}) with {}; ",
+            card.cut.first, card.cut.second, card.cut.total
+        )?;
+        write!(f, "no plan has fewer than {} slots", card.lower_bound)
+    }
+}
+
+/// Prints that a call was refused, and by which number.
+fn print_refusal(rt: &HostRuntime, call: &str, refusal: Refusal) -> anyhow::Result<()> {
+    println!(rt; "{call}: refused by {}", refusal.number())?;
+    Ok(())
+}
+
+/// Prints what a call answered: what it gives, or that it was refused.
+fn print_answer<T: fmt::Display + Drop>(
+    rt: &HostRuntime,
+    call: &str,
+    answer: Result<T, Refusal>,
+) -> anyhow::Result<()> {
     match answer {
-        Ok(()) => println!(rt; "{call}: accepted")?,
-        Err(refusal) => {
-            let number = refusal.number();
-            println!(rt; "{call}: refused by {number}")?;
-        }
+        Ok(given) => println!(rt; "{call}: {given}")?,
+        Err(refusal) => print_refusal(rt, call, refusal)?,
     }
     Ok(())
 }
 
-/// Prints the card of a plan.
-fn print_card(rt: &HostRuntime, call: &str, answer: Result<Card, Refusal>) -> anyhow::Result<()> {
-    match answer {
-        Ok(card) => {
-            let slots = card.slots;
-            let first = card.cut.first;
-            let second = card.cut.second;
-            let total = card.cut.total;
-            let least = card.lower_bound;
-            println!(rt;
-                "{call}: {slots} slots; heaviest cut ({first}, {second}) with {total}; no plan has fewer than {least} slots"
-            )?;
-        }
-        Err(refusal) => {
-            let number = refusal.number();
-            println!(rt; "{call}: refused by {number}")?;
-        }
-    }
-    Ok(())
+/// Prints what a call answered that gives nothing.
+fn print_done(rt: &HostRuntime, call: &str, answer: Result<(), Refusal>) -> anyhow::Result<()> {
+    print_answer(rt, call, answer.map(|()| "accepted"))
 }
 
 /// Prints which drawing the book holds.
@@ -83,13 +83,12 @@ fn print_drawing(rt: &HostRuntime, book: &Book) -> anyhow::Result<()> {
 
 /// Prints the rows of a node that were loaded.
 fn print_rows(rt: &HostRuntime, node: u8, rows: &[Row]) -> anyhow::Result<()> {
-    let count = rows.len();
-    print!(rt; "node {node}: {count} rows loaded")?;
+    print!(rt; "node {node}: {} rows loaded", rows.len())?;
     for row in rows {
-        let demand = row.demand;
-        let side = row.side;
-        let slot = row.slot;
-        print!(rt; "; number {demand} side {side} slot {slot}")?;
+        print!(rt;
+            "; number {} side {} slot {}",
+            row.demand, row.side, row.slot
+        )?;
     }
     println!(rt; "")?;
     Ok(())
@@ -98,10 +97,10 @@ fn print_rows(rt: &HostRuntime, node: u8, rows: &[Row]) -> anyhow::Result<()> {
 /// Loads each node of the ring, and prints its rows.
 fn load_all(rt: &HostRuntime, book: &mut Book) -> anyhow::Result<()> {
     for node in 1..=book.size() {
-        let mut places = [NO_ROW; 16];
-        match load_node(book, node, &mut places) {
-            Ok(count) => print_rows(rt, node, &places[0..count.min(16)])?,
-            Err(refusal) => print_answer(rt, "loading", Err(refusal))?,
+        let mut places = vec![in rt.alloc(); Row::default(); 16]?;
+        match load_node(book, node, places.as_mut_slice()) {
+            Ok(count) => print_rows(rt, node, &places[..count.min(places.len())])?,
+            Err(refusal) => print_refusal(rt, "loading", refusal)?,
         }
     }
     Ok(())
@@ -110,10 +109,10 @@ fn load_all(rt: &HostRuntime, book: &mut Book) -> anyhow::Result<()> {
 /// Prints the counters of the slips.
 fn print_counts(rt: &HostRuntime, book: &Book) -> anyhow::Result<()> {
     let counts = book.slip_counts();
-    let issued = counts.issued;
-    let loaded = counts.loaded;
-    let returned = counts.returned;
-    println!(rt; "slips: {issued} issued, {loaded} loaded, {returned} returned")?;
+    println!(rt;
+        "slips: {} issued, {} loaded, {} returned",
+        counts.issued, counts.loaded, counts.returned
+    )?;
     Ok(())
 }
 
@@ -121,7 +120,7 @@ fn print_counts(rt: &HostRuntime, book: &Book) -> anyhow::Result<()> {
 fn plan_and_load(rt: &HostRuntime, book: &mut Book) -> anyhow::Result<()> {
     let mut sheet = [0u16; 1024];
     let answer = book.plan(&AllClockwise, &mut sheet);
-    print_card(rt, "plan, everything clockwise", answer)?;
+    print_answer(rt, "plan, everything clockwise", answer.map(Summary))?;
     print_drawing(rt, book)?;
     load_all(rt, book)?;
     print_counts(rt, book)
@@ -130,39 +129,25 @@ fn plan_and_load(rt: &HostRuntime, book: &mut Book) -> anyhow::Result<()> {
 /// Reopens the book, withdraws a demand, and plans by the best link.
 fn plan_again(rt: &HostRuntime, book: &mut Book) -> anyhow::Result<()> {
     let mut sheet = [0u16; 1024];
-    let answer = book.withdraw(2);
-    print_answer(rt, "withdraw 2 from a planned book", answer)?;
-    let answer = book.reopen();
-    print_answer(rt, "reopen", answer)?;
-    let answer = book.withdraw(2);
-    print_answer(rt, "withdraw 2", answer)?;
+    print_done(rt, "withdraw 2 from a planned book", book.withdraw(2))?;
+    print_done(rt, "reopen", book.reopen())?;
+    print_done(rt, "withdraw 2", book.withdraw(2))?;
     let answer = book.best_link_plan(&mut sheet);
-    print_card(rt, "plan by the best link", answer)?;
+    print_answer(rt, "plan by the best link", answer.map(Summary))?;
     print_drawing(rt, book)
 }
 
 /// Enters the demands, and goes through it all.
 fn work(rt: &HostRuntime, book: &mut Book) -> anyhow::Result<()> {
-    let answer = book.enter(1, 1, 3, 2);
-    print_answer(rt, "enter 1: two units 1-3", answer)?;
-    let answer = book.enter(2, 5, 2, 1);
-    print_answer(rt, "enter 2: one unit 5-2", answer)?;
-    let answer = book.enter(3, 1, 5, 1);
-    print_answer(rt, "enter 3: one unit 1-5", answer)?;
-    let answer = book.enter(3, 4, 5, 1);
-    print_answer(rt, "enter 3 again", answer)?;
+    print_done(rt, "enter 1: two units 1-3", book.enter(1, 1, 3, 2))?;
+    print_done(rt, "enter 2: one unit 5-2", book.enter(2, 5, 2, 1))?;
+    print_done(rt, "enter 3: one unit 1-5", book.enter(3, 1, 5, 1))?;
+    print_done(rt, "enter 3 again", book.enter(3, 4, 5, 1))?;
     plan_and_load(rt, book)?;
     plan_again(rt, book)
 }
 
-fn run(rt: &HostRuntime) -> anyhow::Result<()> {
-    match Book::start(rt.alloc(), 5, 7) {
-        Ok(mut book) => work(rt, &mut book),
-        Err(StartFault::Memory) => Err(anyhow!("no memory")),
-        Err(StartFault::Refused(_)) => Err(anyhow!("no such ring")),
-    }
-}
-
 fn main(rt: HostRuntime) -> anyhow::Result<()> {
-    run(&rt)
+    let mut book = Book::start(rt.alloc(), 5, 7)?;
+    work(&rt, &mut book)
 }

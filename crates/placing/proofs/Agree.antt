@@ -10,7 +10,7 @@ use Rattle.drawn.specs.FirstFit.{taken, lowest, put}
 use Rattle.drawn.specs.Slotting.{has_unit, shares, units_of, slots_of, Valid, Distinct}
 use Rattle.sheet.specs.Marks.{marked, in_turn, used}
 use Rattle.placing.specs.Drawing.{mask, marks_after, slots_after, filled}
-use Rattle.drawn.proofs.FirstFit.{folded_append}
+use Rattle.std.proofs.lemmas.List.Sums.{fold-append}
 use Rattle.drawn.proofs.Says.{shares_itself}
 use Rattle.placing.proofs.Tied.{Tied, lows, tied_folded, tied_in_turn}
 use Rattle.placing.proofs.Turns.{used_after, length_after, length_slots_after}
@@ -113,7 +113,7 @@ pub turn_units : (n : ℕ) (t : Route → Bool) (routes : List Route) (ss : List
 turn_units n t [] ss = refl
 turn_units n t (d ∷ ds) ss =
     elim (t d) as (λ b. fold (slots_next n t) (cond b (fold (put (shares n)) ss (replicate d.demand.units d)) ss) ds ≡ fold (put (shares n)) ss (units_of (cond b (d ∷ filter t ds) (filter t ds)))) [
-      | true ↦ turn_units n t ds (fold (put (shares n)) ss (replicate d.demand.units d)) ∙ sym (folded_append (put (shares n)) (replicate d.demand.units d) (units_of (filter t ds)) ss)
+      | true ↦ turn_units n t ds (fold (put (shares n)) ss (replicate d.demand.units d)) ∙ sym (fold-append (put (shares n)) ss (replicate d.demand.units d) (units_of (filter t ds)))
       | false ↦ turn_units n t ds ss
     ]
 

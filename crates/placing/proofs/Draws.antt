@@ -16,10 +16,12 @@ use Rattle.drawn.specs.FirstFit.{put, fitted}
 use Rattle.drawn.specs.Slotting.{shares, start_node, round, units_of, units_over, Valid, Distinct, slotted_at, slots_in}
 use Rattle.placing.specs.Drawing.{comes, marks_after, slots_after, filled, turn_size, turns_size, marks_turns, slots_turns, node_turns, Empty, Ready}
 use Rattle.sheet.specs.Marks.{used}
-use Rattle.drawn.proofs.FirstFit.{Led, folded_append, all_both}
+use Rattle.drawn.proofs.FirstFit.{Led, all_both}
+use Rattle.std.proofs.lemmas.List.Sums.{fold-append}
 use Rattle.drawn.proofs.Line.{all_counting, led_append}
 use Rattle.drawn.proofs.Counts.{turns, count_units, count_joined, count_turns, start_in}
 use Rattle.drawn.proofs.Bounds.{some_has, over_first}
+use Rattle.drawn.proofs.Says.{some_append, some_map}
 use Rattle.placing.proofs.Tied.{Tied, tied_none}
 use Rattle.placing.proofs.Turns.{used_after, length_after, length_slots_after}
 use Rattle.placing.proofs.Agree.{slots_next, turn_units, tied_next, Agree, turn_agree, agree_all, agree_none}
@@ -101,7 +103,7 @@ slots_units n c routes [] ss = refl
 slots_units n c routes (r ∷ rs) ss =
     slots_units n c routes rs (fold (slots_next n (comes c r)) ss routes)
     ∙ ap (λ s. fold (put (shares n)) s (flat_map (λ q. units_of (filter (comes c q) routes)) rs)) (turn_units n (comes c r) routes ss)
-    ∙ sym (folded_append (put (shares n)) (units_of (filter (comes c r) routes)) (flat_map (λ q. units_of (filter (comes c q) routes)) rs) ss)
+    ∙ sym (fold-append (put (shares n)) ss (units_of (filter (comes c r) routes)) (flat_map (λ q. units_of (filter (comes c q) routes)) rs))
 
 joined_map : {X Y Z : Type 0} (f : Y → List Z) (h : X → Y) (xs : List X) → flat_map f (map h xs) ≡ flat_map (λ x. f (h x)) xs
 joined_map f h [] = refl
@@ -140,14 +142,6 @@ order_apart n c = (
       (λ u v ne d e. and_right (not (holds d c)) (eqb (start_node d) u) (ne_eqb (start_node d) u (λ q. ne (sym q ∙ eqb-true (start_node d) v (and_parts (not (holds d c)) (eqb (start_node d) v) e).1))))
       (round n c) (round_apart n c)),
 )
-
-some_append : {X : Type 0} (p : X → Bool) (xs ys : List X) → some p (xs ++ ys) ≡ (some p xs || some p ys)
-some_append p [] ys = refl
-some_append p (x ∷ xs) ys = ap (λ b. p x || b) (some_append p xs ys) ∙ sym (or_assoc (p x) (some p xs) (some p ys))
-
-some_map : {X Y : Type 0} (p : Y → Bool) (f : X → Y) (xs : List X) → some p (map f xs) ≡ some (λ x. p (f x)) xs
-some_map p f [] = refl
-some_map p f (x ∷ xs) = ap (λ b. p (f x) || b) (some_map p f xs)
 
 pub order_all : (n c : ℕ) (d : Route) → c ≤ n → Valid n d → some (λ r. comes c r d) (order n c) ≡ true
 order_all n c d h v =

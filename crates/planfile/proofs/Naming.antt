@@ -1,6 +1,7 @@
 -- What a refusal of the checker names is one of the demands or rows given.
 use Rattle.std.proofs.Common.{◌≡◌, ℕ, ◌+◌, ◌<◌, ◌≤◌, Bool, true, false, cond, not, ◌&&◌, ◌||◌, eqb, ltb, leb, List, [], ◌∷◌, ◌++◌, length, Some, None, Ok, Err, Option, Result, refl, subst, arith}
 use Rattle.std.specs.List.{prefix_len}
+use Rattle.std.specs.Option.{option_or}
 use Rattle.std.proofs.lemmas.List.{length-append}
 use Rattle.std.proofs.lemmas.Bool.{ltb-true}
 use Rattle.refusals.specs.declared.Refusal.{Refusal}
@@ -8,10 +9,10 @@ use Rattle.refusals.specs.declared.Refusal.TheVariants.{RingSize, TooFew, BookFu
 use Rattle.ring.specs.Ring.{named, units}
 use Rattle.ring.specs.declared.Demand.{Demand}
 use Rattle.ring.specs.declared.Row.{Row}
-use Rattle.checklines.specs.Faults.{or_else, first_fault, from_to}
+use Rattle.checklines.specs.Faults.{first_fault, from_to}
 use Rattle.checklines.specs.Lines.{line_fault, lines_fault}
 use Rattle.checkrows.specs.Rows.{like_first, earliest, form_fault, collision_fault, row_fault, rows_fault, is_full, counts_fault}
-use Rattle.checker.specs.declared.Verdict.{Verdict}
+use Rattle.ring.specs.declared.Figures.{Figures}
 use Rattle.checker.specs.Verdicts.{ring_fault, sheet_fault, figures, unless, verdict}
 use Rattle.planfile.specs.Places.{Named, RefusalsNamed}
 
@@ -26,7 +27,7 @@ module _ (P : Refusal → Type 0) where
   tested true f o here later e h = subst P (cc) (here refl)
   tested false f o here later e h = later e h
 
-  first_or : (o q : Option Refusal) → ((e : Refusal) → o ≡ Some e → P e) → ((e : Refusal) → q ≡ Some e → P e) → (e : Refusal) → or_else o q ≡ Some e → P e
+  first_or : (o q : Option Refusal) → ((e : Refusal) → o ≡ Some e → P e) → ((e : Refusal) → q ≡ Some e → P e) → (e : Refusal) → option_or o q ≡ Some e → P e
   first_or (Some f) q one two e h = one e h
   first_or None q one two e h = two e h
 
@@ -38,7 +39,7 @@ module _ (P : Refusal → Type 0) where
       (walked fault m each (before ++ x ∷ []) xs (omega (arith, length-append before (x ∷ [])))) e k
 
   -- of the answer that a fault comes before
-  barred : (o : Option Refusal) (r : Result Verdict Refusal) → ((e : Refusal) → o ≡ Some e → P e) → ((e : Refusal) → r ≡ Err e → P e) → (e : Refusal) → unless o r ≡ Err e → P e
+  barred : (o : Option Refusal) (r : Result Figures Refusal) → ((e : Refusal) → o ≡ Some e → P e) → ((e : Refusal) → r ≡ Err e → P e) → (e : Refusal) → unless o r ≡ Err e → P e
   barred (Some f) r one two e h = one e (cc)
   barred None r one two e h = two e h
 

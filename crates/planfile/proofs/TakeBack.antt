@@ -9,7 +9,7 @@ use Rattle.frames.specs.Reading.{reading, rows_in}
 use Rattle.planwrite.specs.Backs.{whole, ReadsBack}
 use Rattle.checklines.specs.Lines.{lines_fault}
 use Rattle.checkrows.specs.Rows.{rows_fault, counts_fault}
-use Rattle.checker.specs.declared.Verdict.{Verdict}
+use Rattle.ring.specs.declared.Figures.{Figures as PlanFigures}
 use Rattle.checker.specs.Verdicts.{ring_fault, sheet_fault, figures, unless, verdict}
 use Rattle.checker.proofs.Passing.{passes}
 use Rattle.planfile.specs.declared.PlanFault.TheVariants.{Figures}
@@ -26,7 +26,7 @@ slots_few (r ∷ rs) = go (has r.slot (slots rs)) (slots_few rs)
     go false h = omega arith
 
 -- an answer that passes has no fault before it
-unbarred : (o : Option Refusal) (r : Result Verdict Refusal) → is_ok (unless o r) ≡ true → unless o r ≡ r
+unbarred : (o : Option Refusal) (r : Result PlanFigures Refusal) → is_ok (unless o r) ≡ true → unless o r ≡ r
 unbarred (Some f) r h = absurd (false≢true h)
 unbarred None r h = refl
 
@@ -49,7 +49,7 @@ passed_figures n lines rows marks h =
     e1 ∙ e2 ∙ e3 ∙ e4 ∙ unbarred (counts_fault lines rows) ok h4
 
 -- the figures of a file that reads back are those that were written
-same_figures : (number nodes ds us slots : ℕ) (v : Verdict) → v.slots ≡ slots → compared (whole number nodes ds us slots) v ≡ Ok (record { number = number; nodes = nodes; demands = ds; units = us; verdict = v })
+same_figures : (number nodes ds us slots : ℕ) (v : PlanFigures) → v.slots ≡ slots → compared (whole number nodes ds us slots) v ≡ Ok (record { number = number; nodes = nodes; demands = ds; units = us; verdict = v })
 same_figures number nodes ds us slots v e =
     cond-true (eqb ds ds && (eqb us us && eqb slots v.slots)) (Ok (record { number = number; nodes = nodes; demands = ds; units = us; verdict = v })) (Err (Figures (2 + ds + us)))
     (and_from (eqb ds ds) (eqb us us && eqb slots v.slots) (eq-eqb ds ds refl) (and_from (eqb us us) (eqb slots v.slots) (eq-eqb us us refl) (eq-eqb slots v.slots (sym e))))

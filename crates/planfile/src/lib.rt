@@ -8,10 +8,9 @@ ghost use Rattle.std.specs.Prelude.{◌≡◌};
 ghost use Rattle.planfile.specs.declared.PlanFault.TheVariants.{OfFrame};
 ghost use Rattle.planfile.specs.Faults.{cause_of, line_of_fault};
 
-use checker::Verdict;
 use frames::FrameFault;
 use lines::LineFault;
-use ring::Refusal;
+use ring::{Figures, Refusal};
 
 /// Why a plan file is refused.
 #[derive(Clone, Copy, PartialEq, Eq, Debug)]
@@ -32,12 +31,12 @@ impl From<FrameFault> for PlanFault {
     }
 }
 
-impl PlanFault {
+impl From<PlanFault> for Refusal {
+    ghost from_gives = { λ fault r. r ≡ cause_of fault };
+
     /// The cause, as every call of the library has it.
-    pub fn cause(self) -> Refusal
-        ensures { result ≡ cause_of self }
-    {
-        match self {
+    fn from(fault: PlanFault) -> Refusal {
+        match fault {
             PlanFault::OfFrame(FrameFault::Line(LineFault { line, character })) => {
                 Refusal::LineForm { line, character }
             }
@@ -48,7 +47,9 @@ impl PlanFault {
             PlanFault::Figures { line } => Refusal::FiguresWrong { line },
         }
     }
+}
 
+impl PlanFault {
     /// The line of the text that the fault is of, counted from 1: what `lines::fault_line` shows.
     pub fn line(self) -> usize
         ensures { result ≡ line_of_fault self }
@@ -64,12 +65,12 @@ impl PlanFault {
     }
 }
 
-/// What a plan file says: the number of its book, the size of its ring, how many demands and units it has, and the checker's verdict.
+/// What a plan file says: the number of its book, the size of its ring, how many demands and units it has, and the figures by which the checker passed it.
 #[derive(Clone, Copy, PartialEq, Eq, Debug)]
 pub struct Taken {
     pub number: u16,
     pub nodes: u8,
     pub demands: usize,
     pub units: usize,
-    pub verdict: Verdict,
+    pub verdict: Figures,
 }

@@ -8,17 +8,17 @@ ghost use Rattle.planfile.specs.Places.{Named, line_of, RefusalsNamed};
 ghost use Rattle.planfile.specs.Taking.{compared, judged, taking};
 
 use crate::{PlanFault, Taken};
-use checker::{Verdict, check};
-use frames::Progress;
+use checker::check;
+use frames::Contents;
 use frames::read::read_file;
-use ring::{Demand, Refusal, Row};
+use ring::{Demand, Figures, Refusal, Row};
 use sheet::Guard;
 
-/// The text's line of the frame that a refusal of the checker is about, in a file with so many demands and units.
-fn line_of(demands: usize, units: usize, refusal: Refusal) -> usize
-    requires named { Named demands units refusal }
-    requires small { demands + units < 2 ^ 63 }
-    ensures { result ≡ line_of demands refusal }
+/// The text's line of the frame that a refusal of the checker is about, in a file that says this.
+fn line_of(p: Contents, refusal: Refusal) -> usize
+    requires named { Named p.demands p.units refusal }
+    requires small { p.demands + p.units < 2 ^ 63 }
+    ensures { result ≡ line_of p.demands refusal }
 {
     match refusal {
         Refusal::EndOutside { place }
@@ -31,27 +31,27 @@ fn line_of(demands: usize, units: usize, refusal: Refusal) -> usize
         Refusal::DemandUnknown { row }
         | Refusal::SideWrong { row }
         | Refusal::SlotOutside { row }
-        | Refusal::Collision { row, .. } => 1 + demands + row,
+        | Refusal::Collision { row, .. } => 1 + p.demands + row,
         _ => 1,
     }
 }
 
 /// Compares the figures of the end frame with the counts and with the checker's slot count.
-fn compare(p: Progress, verdict: Verdict) -> Result<Taken, PlanFault>
+fn compare(p: Contents, verdict: Figures) -> Result<Taken, PlanFault>
     requires { p.demands + p.units < 2 ^ 63 }
     ensures { result ≡ compared p verdict }
 {
-    let same = usize::from(p.said_demands) == p.demands
-        && usize::from(p.said_units) == p.units
-        && p.said_slots == verdict.slots;
+    let same = usize::from(p.totals.demands) == p.demands
+        && usize::from(p.totals.units) == p.units
+        && p.totals.slots == verdict.slots;
     if !same {
         return Err(PlanFault::Figures {
             line: 2 + p.demands + p.units,
         });
     }
     Ok(Taken {
-        number: p.number,
-        nodes: p.nodes,
+        number: p.heading.number,
+        nodes: p.heading.nodes,
         demands: p.demands,
         units: p.units,
         verdict,
@@ -59,15 +59,15 @@ fn compare(p: Progress, verdict: Verdict) -> Result<Taken, PlanFault>
 }
 
 /// Checks what was read, and compares the figures of the end frame.
-fn judge(p: Progress, lines: &[Demand], rows: &[Row], marks: &mut [u16]) -> Result<Taken, PlanFault>
+fn judge(p: Contents, lines: &[Demand], rows: &[Row], marks: &mut [u16]) -> Result<Taken, PlanFault>
     requires lines { length lines.now ≡ p.demands }
     requires rows { length rows.now ≡ p.units }
     ensures { result ≡ judged (length marks.old) p lines.now rows.now }
 {
-    match check(p.nodes, lines, rows, marks) {
+    match check(p.heading.nodes, lines, rows, marks) {
         Ok(verdict) => compare(p, verdict),
         Err(refusal) => Err(PlanFault::Refused {
-            line: line_of(p.demands, p.units, refusal),
+            line: line_of(p, refusal),
             refusal,
         }),
     }
@@ -85,9 +85,7 @@ fn take_on(
     ensures rows { rows.new ≡ overwrite rows.old 0 (rows_in (reading (length lines.old) (length rows.old) text.now).frames) }
 {
     let p = read_file(text, lines, rows)?;
-    let demands = p.demands;
-    let units = p.units;
-    judge(p, &lines[0..demands], &rows[0..units], marks)
+    judge(p, &lines[..p.demands], &rows[..p.units], marks)
 }
 
 /// Takes a plan file. Its demands and rows go to the front of `lines` and `rows`, in their order: those before a fault where it cannot be read,
@@ -108,8 +106,6 @@ pub fn take_file(
 }
 
 /// Whatever the checker refuses, the demand or the row that it names is one of those given.
-pub fn refusals_named() -> u8
+pub fn refusals_named()
     ensures { RefusalsNamed }
-{
-    0
-}
+{}

@@ -1,12 +1,15 @@
 //! The sample file exactly, and what is wrong with files that differ from it.
 
+ghost use Rattle.std.specs.Prelude.{◌<◌};
+
 use frames::FrameFault;
 use frames::read::read_file;
 use lines::{LineFault, fault_line};
 use planfile::PlanFault;
 use planfile::take::take_file;
-use planfile::write::write_plan;
+use planfile::write::{PlanFile, write_plan};
 use ring::{Demand, Refusal, Row};
+use std::process::Abort;
 use std::test::Fail;
 
 const SAMPLE: &[u8; 89] =
@@ -33,12 +36,18 @@ fn clockwise(demand: u16, slot: u16) -> Row {
 fn the_sample_is_written(rt: HostRuntime) {
     let demands = [between(1, 1, 3, 2), between(2, 2, 4, 1)];
     let rows = [clockwise(1, 1), clockwise(1, 2), clockwise(2, 3)];
+    let plan = PlanFile {
+        number: 7,
+        nodes: 4,
+        demands: &demands,
+        rows: &rows,
+    };
     let mut bytes = [7u8; 90];
-    assert_eq!(rt; write_plan(7, 4, &demands, &rows, &mut bytes), Ok(89));
+    assert_eq!(rt; write_plan(&plan, &mut bytes), Ok(89));
     assert_eq!(rt; &bytes[0..89], SAMPLE.as_slice());
     assert_eq!(rt; bytes[89], 7, "past the text");
     let mut few = [7u8; 88];
-    let refused = write_plan(7, 4, &demands, &rows, &mut few);
+    let refused = write_plan(&plan, &mut few);
     assert_eq!(rt; refused, Err(Refusal::TooFew { needed: 89 }));
     assert_eq!(rt; few[0], 7, "nothing is written");
 }
@@ -189,35 +198,40 @@ fn a_fault_is_shown(rt: HostRuntime) {
     assert_eq!(rt; fault_line(SAMPLE, 8), b"".as_slice());
     let fault = PlanFault::OfFrame(FrameFault::TooFew { needed: 3, line: 4 });
     assert_eq!(rt; fault.line(), 4);
-    assert_eq!(rt; fault.cause(), Refusal::TooFew { needed: 3 });
+    assert_eq!(rt; Refusal::from(fault), Refusal::TooFew { needed: 3 });
+}
+
+/// Why a file of N demands like this one, numbered from 1, is refused, if it is. Its text has T bytes.
+fn fault_of_many<const N: usize, const T: usize>(rt: &impl Abort, like: Demand) -> Option<PlanFault>
+    requires few { N < 65536 }
+    requires short { T < 65536 }
+{
+    let mut demands = [like; N];
+    for (d, number) in demands.iter_mut().zip(1..) {
+        d.number = number;
+    }
+    let mut text = [0u8; T];
+    let plan = PlanFile {
+        number: 7,
+        nodes: 4,
+        demands: &demands,
+        rows: &[],
+    };
+    assert!(rt; write_plan(&plan, &mut text).is_ok());
+    let mut lines = [between(0, 0, 0, 0); N];
+    let mut rows = [clockwise(0, 0); 1];
+    let mut sheet = [0u16; 1024];
+    take_file(&text, &mut lines, &mut rows, &mut sheet).err()
 }
 
 #[test]
 fn too_many_lines(rt: HostRuntime) {
-    let mut demands = [between(0, 1, 2, 1); 129];
-    for (i, d) in demands.iter_mut().enumerate() {
-        d.number = (i % 1000) as u16 + 1;
-    }
-    let mut text = [0u8; 1701];
-    assert!(rt; write_plan(7, 4, &demands, &[], &mut text).is_ok());
-    let mut lines = [between(0, 0, 0, 0); 129];
-    let mut rows = [clockwise(0, 0); 1];
-    let mut sheet = [0u16; 1024];
-    let fault = take_file(&text, &mut lines, &mut rows, &mut sheet).err();
+    let fault = fault_of_many::<129, 1701>(&rt, between(0, 1, 2, 1));
     assert_eq!(rt; fault, because(130, Refusal::BookFull { place: 129 }));
 }
 
 #[test]
 fn too_many_units(rt: HostRuntime) {
-    let mut demands = [between(0, 1, 2, 48); 22];
-    for (i, d) in demands.iter_mut().enumerate() {
-        d.number = (i % 1000) as u16 + 1;
-    }
-    let mut text = [0u8; 310];
-    assert!(rt; write_plan(7, 4, &demands, &[], &mut text).is_ok());
-    let mut lines = [between(0, 0, 0, 0); 22];
-    let mut rows = [clockwise(0, 0); 1];
-    let mut sheet = [0u16; 1024];
-    let fault = take_file(&text, &mut lines, &mut rows, &mut sheet).err();
+    let fault = fault_of_many::<22, 310>(&rt, between(0, 1, 2, 48));
     assert_eq!(rt; fault, because(23, Refusal::UnitsPast { place: 22 }));
 }

@@ -1,7 +1,12 @@
 -- The text of a plan written part by part: its length, and what the bytes hold.
-use Rattle.std.proofs.Common.{◌≡◌, ℕ, ◌+◌, ◌*◌, ◌<◌, ◌≤◌, cond, leb, List, [], ◌∷◌, ◌++◌, map, length, get_or, take, drop, Ok, Err, sym, refl, ap, ◌∙◌, inl, inr, arith}
+use Rattle.std.proofs.Common.{◌≡◌, ℕ, ◌+◌, ◌*◌, ◌/◌, ◌%◌, ◌<◌, ◌≤◌, cond, leb, List, [], ◌∷◌, ◌++◌, map, length, take, drop, Some, Option, Ok, Err, sym, refl, ap, map-id, ◌∙◌, inl, inr, arith}
 use Rattle.std.specs.List.{flat_map}
-use Rattle.std.proofs.lemmas.List.{at_drop_more, at_drop_all, length-append, append_assoc, append-nil, take_at}
+use Rattle.std.specs.Iterator.{Yields}
+use Rattle.std.proofs.lemmas.Iterator.{YieldsList}
+use Rattle.std.proofs.lemmas.Iterator.Consumers.{YieldsList-so_far, YieldsList-turn}
+use Rattle.std.proofs.lemmas.Grind.{flat_map-append}
+use Rattle.std.proofs.lemmas.List.Folds.{length-flat_map-take}
+use Rattle.std.proofs.lemmas.List.{length-append, append_assoc, append-nil, take_at}
 use Rattle.std.proofs.lemmas.Bool.{le-leb, leb-true, cases_Bool, cond-true, cond-false}
 use Rattle.lines.specs.Writes.{overwrite}
 use Rattle.lines.proofs.Writes.{over_append, over_is}
@@ -12,68 +17,68 @@ use Rattle.frames.specs.declared.Frame.TheVariants.{RingFrame, DemandFrame, Unit
 use Rattle.refusals.specs.declared.Refusal.{Refusal}
 use Rattle.refusals.specs.declared.Refusal.TheVariants.{TooFew}
 use Rattle.planwrite.specs.Fronts.{fronted, fronting}
-use Rattle.planwrite.specs.Texts.{frame_text, file_text, file_length}
+use Rattle.planwrite.specs.Texts.{frame_text, plan_frames, file_text, file_length}
 
--- one more line, and the end
-module _ {X : Type 0} (make : X → Frame) (bytes : List ℕ) (place : ℕ) (xs : List X) (i : ℕ) where
-  pub frames_more : (d : X) (bytes' : List ℕ) (place' : ℕ) → i < length xs → bytes' ≡ overwrite bytes place (frame_text (make (get_or xs i d))) → place' ≡ place + length (frame_text (make (get_or xs i d))) → overwrite bytes' place' (flat_map frame_text (map make (drop (i + 1) xs))) ≡ overwrite bytes place (flat_map frame_text (map make (drop i xs)))
-  frames_more d bytes' place' lt e n =
-      ap (λ b. overwrite b place' (flat_map frame_text (map make (drop (i + 1) xs)))) e
-      ∙ ap (λ k. overwrite (overwrite bytes place (frame_text (make (get_or xs i d)))) k (flat_map frame_text (map make (drop (i + 1) xs)))) n
-      ∙ sym (over_append bytes place (frame_text (make (get_or xs i d))) (flat_map frame_text (map make (drop (i + 1) xs))))
-      ∙ sym (at_drop_more (λ (ys : List X). overwrite bytes place (flat_map frame_text (map make ys))) xs i d lt)
+-- the high byte of a number of two bytes
+pub high_byte : (n : ℕ) → n < 65536 → n / 256 % 256 ≡ n / 256
+high_byte n h = omega arith
 
-  pub frames_all : length xs ≤ i → bytes ≡ overwrite bytes place (flat_map frame_text (map make (drop i xs)))
-  frames_all le = sym (at_drop_all (λ (ys : List X). overwrite bytes place (flat_map frame_text (map make ys))) xs i le)
+joined_one : (fs : List Frame) (f : Frame) → flat_map frame_text (fs ++ f ∷ []) ≡ flat_map frame_text fs ++ frame_text f
+joined_one fs f = flat_map-append frame_text fs (f ∷ []) ∙ ap (λ t. flat_map frame_text fs ++ t) (append-nil (frame_text f))
 
-joined_append : (xs ys : List Frame) → flat_map frame_text (xs ++ ys) ≡ flat_map frame_text xs ++ flat_map frame_text ys
-joined_append [] ys = refl
-joined_append (f ∷ fs) ys = ap (λ t. frame_text f ++ t) (joined_append fs ys) ∙ sym (append_assoc (frame_text f) (flat_map frame_text fs) (flat_map frame_text ys))
+-- how long the lines of demands, and of rows, are
+length_each : {X : Type 0} (make : X → Frame) → ((x : X) → length (frame_text (make x)) ≡ 13) → (xs : List X) → length (flat_map frame_text (map make xs)) ≡ 13 * length xs
+length_each make h [] = refl
+length_each make h (x ∷ xs) = omega (arith, length-append (frame_text (make x)) (flat_map frame_text (map make xs)), h x, length_each make h xs)
 
--- how long the lines are
-pub length_demands : (ds : List Demand) → length (flat_map frame_text (map DemandFrame ds)) ≡ 13 * length ds
-length_demands [] = refl
-length_demands (d ∷ ds) = omega (arith, length-append (frame_text (DemandFrame d)) (flat_map frame_text (map DemandFrame ds)), length_demands ds)
+pub length_file : (number nodes : ℕ) (demands : List Demand) (rows : List Row) (slots : ℕ) → length (file_text number nodes demands rows slots) ≡ file_length (length demands) (length rows)
+unfolding file_text
+length_file number nodes demands rows slots =
+    let ring = frame_text (RingFrame (record { number = number; nodes = nodes })) in
+    let end = EndFrame (record { demands = length demands; units = length rows; slots = slots }) in
+    let ms = map DemandFrame demands in
+    let us = map UnitFrame rows in
+    omega (
+      arith,
+      length-append ring (flat_map frame_text (ms ++ (us ++ (end ∷ [])))),
+      ap length (flat_map-append frame_text ms (us ++ (end ∷ []))),
+      length-append (flat_map frame_text ms) (flat_map frame_text (us ++ (end ∷ []))),
+      ap length (flat_map-append frame_text us (end ∷ [])),
+      length-append (flat_map frame_text us) (flat_map frame_text (end ∷ [])),
+      length_each DemandFrame (λ d. refl) demands,
+      length_each UnitFrame (λ r. refl) rows,
+    )
 
-pub length_rows : (rs : List Row) → length (flat_map frame_text (map UnitFrame rs)) ≡ 13 * length rs
-length_rows [] = refl
-length_rows (r ∷ rs) = omega (arith, length-append (frame_text (UnitFrame r)) (flat_map frame_text (map UnitFrame rs)), length_rows rs)
+-- the frames of a plan, joined one part after another
+abbrev pub joined : ℕ → ℕ → List Demand → List Row → ℕ → List Frame
+joined number nodes demands rows slots =
+    (((RingFrame (record { number = number; nodes = nodes }) ∷ []) ++ map DemandFrame demands) ++ map UnitFrame rows) ++ (EndFrame (record { demands = length demands; units = length rows; slots = slots }) ∷ [])
 
-module _ (number nodes : ℕ) (demands : List Demand) (rows : List Row) (slots : ℕ) where
-  -- the parts of a file
-  file_parts : file_text number nodes demands rows slots ≡ frame_text (RingFrame number nodes) ++ (flat_map frame_text (map DemandFrame demands) ++ (flat_map frame_text (map UnitFrame rows) ++ frame_text (EndFrame (length demands) (length rows) slots)))
-  unfolding file_text
-  file_parts =
-      ap (λ t. frame_text (RingFrame number nodes) ++ t)
-      (joined_append (map DemandFrame demands) (map UnitFrame rows ++ (EndFrame (length demands) (length rows) slots ∷ []))
-      ∙ ap (λ t. flat_map frame_text (map DemandFrame demands) ++ t) (joined_append (map UnitFrame rows) (EndFrame (length demands) (length rows) slots ∷ []) ∙ ap (λ t. flat_map frame_text (map UnitFrame rows) ++ t) (append-nil (frame_text (EndFrame (length demands) (length rows) slots)))))
+pub joined_is : (number nodes : ℕ) (demands : List Demand) (rows : List Row) (slots : ℕ) → joined number nodes demands rows slots ≡ plan_frames number nodes demands rows slots
+joined_is number nodes demands rows slots = append_assoc (RingFrame (record { number = number; nodes = nodes }) ∷ map DemandFrame demands) (map UnitFrame rows) _
 
-  pub length_file : length (file_text number nodes demands rows slots) ≡ file_length (length demands) (length rows)
-  length_file =
-      let m = flat_map frame_text (map DemandFrame demands) in
-      let u = flat_map frame_text (map UnitFrame rows) in
-      let e = frame_text (EndFrame (length demands) (length rows) slots) in
-      omega (arith, ap length file_parts, length-append (frame_text (RingFrame number nodes)) (m ++ (u ++ e)), length-append m (u ++ e), length-append u e, length_demands demands, length_rows rows)
+pub joined_text : (number nodes : ℕ) (demands : List Demand) (rows : List Row) (slots : ℕ) → flat_map frame_text (joined number nodes demands rows slots) ≡ file_text number nodes demands rows slots
+unfolding file_text
+joined_text number nodes demands rows slots = ap (flat_map frame_text) (joined_is number nodes demands rows slots)
 
-  -- the four parts written one after another are the file written
-  pub file_over : (b b1 b2 b3 b4 : List ℕ) (a1 a2 a3 : ℕ) →
-      b1 ≡ overwrite b 0 (frame_text (RingFrame number nodes)) → a1 ≡ 9 →
-      b2 ≡ overwrite b1 a1 (flat_map frame_text (map DemandFrame demands)) → a2 ≡ a1 + 13 * length demands →
-      b3 ≡ overwrite b2 a2 (flat_map frame_text (map UnitFrame rows)) → a3 ≡ a2 + 13 * length rows →
-      b4 ≡ overwrite b3 a3 (frame_text (EndFrame (length demands) (length rows) slots)) →
-      b4 ≡ overwrite b 0 (file_text number nodes demands rows slots)
-  file_over b b1 b2 b3 b4 a1 a2 a3 e1 n1 e2 n2 e3 n3 e4 =
-      let f = frame_text (RingFrame number nodes) in
-      let m = flat_map frame_text (map DemandFrame demands) in
-      let u = flat_map frame_text (map UnitFrame rows) in
-      let e = frame_text (EndFrame (length demands) (length rows) slots) in
-      let z1 : a1 ≡ 0 + length f = n1 in
-      let z2 : a2 ≡ a1 + length m = omega (arith, length_demands demands) in
-      let z3 : a3 ≡ a2 + length u = omega (arith, length_rows rows) in
-      let s3 : b4 ≡ overwrite b2 a2 (u ++ e) = e4 ∙ ap (λ x. overwrite x a3 e) e3 ∙ ap (λ k. overwrite (overwrite b2 a2 u) k e) z3 ∙ sym (over_append b2 a2 u e) in
-      let s2 : b4 ≡ overwrite b1 a1 (m ++ (u ++ e)) = s3 ∙ ap (λ x. overwrite x a2 (u ++ e)) e2 ∙ ap (λ k. overwrite (overwrite b1 a1 m) k (u ++ e)) z2 ∙ sym (over_append b1 a1 m (u ++ e)) in
-      let s1 : b4 ≡ overwrite b 0 (f ++ (m ++ (u ++ e))) = s2 ∙ ap (λ x. overwrite x a1 (m ++ (u ++ e))) e1 ∙ ap (λ k. overwrite (overwrite b 0 f) k (m ++ (u ++ e))) z1 ∙ sym (over_append b 0 f (m ++ (u ++ e))) in
-      s1 ∙ ap (overwrite b 0) (sym file_parts)
+-- one more frame
+pub over_more : (bytes : List ℕ) (fs : List Frame) (f : Frame) (b b' : List ℕ) (at : ℕ) → b ≡ overwrite bytes 0 (flat_map frame_text fs) → at ≡ length (flat_map frame_text fs) → b' ≡ overwrite b at (frame_text f) → b' ≡ overwrite bytes 0 (flat_map frame_text (fs ++ f ∷ []))
+over_more bytes fs f b b' at e n k =
+    let z : at ≡ 0 + length (flat_map frame_text fs) = omega arith in
+    k ∙ ap (λ x. overwrite x at (frame_text f)) e ∙ ap (λ n. overwrite (overwrite bytes 0 (flat_map frame_text fs)) n (frame_text f)) z
+    ∙ sym (over_append bytes 0 (flat_map frame_text fs) (frame_text f))
+    ∙ ap (overwrite bytes 0) (sym (joined_one fs f))
+
+pub length_more : (fs : List Frame) (f : Frame) (at next : ℕ) → at ≡ length (flat_map frame_text fs) → next ≡ at + length (frame_text f) → next ≡ length (flat_map frame_text (fs ++ f ∷ []))
+length_more fs f at next e n = omega (arith, ap length (joined_one fs f), length-append (flat_map frame_text fs) (frame_text f))
+
+-- the next frame of a chain has room where all of them have
+pub next_fits : {S : Type 0} {steps : S → Option Frame → S → Type 0} {s : S} {all : List Frame} (e : YieldsList steps (λ x. x) s all) (xs : List Frame) (t : S) (y : Yields steps s xs t) (r : Option Frame) (u : S) (f : Frame) → r ≡ Some f → steps t r u → length (flat_map frame_text xs) + length (frame_text f) ≤ length (flat_map frame_text all)
+next_fits {all = all} e xs t y r u f is step =
+    let turn = YieldsList-turn e xs t y r u f is step in
+    let so_far : xs ≡ take (length xs) all = sym (map-id xs) ∙ YieldsList-so_far e xs t y in
+    let room = length-flat_map-take frame_text all (length xs) f turn.0 in
+    omega (arith, room, ap (λ fs. length (flat_map frame_text fs)) so_far, ap (λ g. length (frame_text g)) turn.1)
 
 -- the answer of writing a text, and what the bytes hold
 module _ (text old : List ℕ) where

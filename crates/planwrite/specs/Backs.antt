@@ -2,13 +2,13 @@
 use Rattle.std.specs.Prelude.{◌≡◌, ℕ, ◌≤◌, List, length, Ok}
 use Rattle.ring.specs.declared.Demand.{Demand}
 use Rattle.ring.specs.declared.Row.{Row}
-use Rattle.frames.specs.declared.State.TheVariants.{Done}
-use Rattle.frames.specs.declared.Progress.{Progress}
+use Rattle.frames.specs.declared.Contents.{Contents}
 use Rattle.frames.specs.Reading.{Reading, reading, demands_in, rows_in}
 
--- what a reader knows at the end of the file of a plan
-abbrev pub whole : ℕ → ℕ → ℕ → ℕ → ℕ → Progress
-whole number nodes demands units slots = record { state = Done; number = number; nodes = nodes; demands = demands; units = units; said_demands = demands; said_units = units; said_slots = slots }
+-- what the whole file of a plan says
+abbrev pub whole : ℕ → ℕ → ℕ → ℕ → ℕ → Contents
+whole number nodes demands units slots =
+    record { heading = record { number = number; nodes = nodes }; demands = demands; units = units; totals = record { demands = demands; units = units; slots = slots } }
 
 -- a reading gives a plan back: the same demands and rows, and at the end the same book number, ring size, counts and slot count
 pub record Gives (number nodes : ℕ) (demands : List Demand) (rows : List Row) (slots : ℕ) (r : Reading) : Type 0 where

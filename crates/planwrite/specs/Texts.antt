@@ -10,15 +10,16 @@ use Rattle.frames.specs.Frames.{frame_bytes}
 
 -- a frame whose fields have the sizes that the form has room for
 abbrev pub Sized : Frame → Type 0
-Sized (RingFrame number nodes) = (number < 65536) × (nodes < 256)
+Sized (RingFrame h) = (h.number < 65536) × (h.nodes < 256)
 Sized (DemandFrame d) = (d.number < 65536) × (d.lower < 256) × (d.upper < 256) × (d.units < 256)
 Sized (UnitFrame r) = (r.demand < 65536) × (r.side < 256) × (r.slot < 65536)
-Sized (EndFrame ds us ss) = (ds < 65536) × (us < 65536) × (ss < 65536)
+Sized (EndFrame t) = (t.demands < 65536) × (t.units < 65536) × (t.slots < 65536)
 
 -- the frames of a plan, in the order of its file
 abbrev pub plan_frames : ℕ → ℕ → List Demand → List Row → ℕ → List Frame
 plan_frames number nodes demands rows slots =
-    RingFrame number nodes ∷ (map DemandFrame demands ++ (map UnitFrame rows ++ (EndFrame (length demands) (length rows) slots ∷ [])))
+    RingFrame (record { number = number; nodes = nodes })
+    ∷ (map DemandFrame demands ++ (map UnitFrame rows ++ (EndFrame (record { demands = length demands; units = length rows; slots = slots }) ∷ [])))
 
 -- the text of a frame: its line
 abbrev pub frame_text : Frame → List ℕ

@@ -10,149 +10,90 @@ ghost use Rattle.planwrite.specs.Texts.{Sized, frame_text, file_text, file_lengt
 ghost use Rattle.planwrite.specs.Fronts.{fronted, fronting};
 ghost use Rattle.planwrite.specs.Backs.{ReadsBack};
 
+use frames::{Frame, Heading, Totals};
 use lines::put_line;
 use ring::{Demand, Refusal, Row};
+use std::iter::once;
 
-/// The high byte of a number.
-fn high(n: u16) -> u8
-    ensures { result ≡ n / 256 }
-{
-    (n / 256) as u8
+/// A plan as its file tells it: the number of its book, the size of its ring, and its demands and rows, of each so few that two bytes count them.
+#[derive(Clone, Copy)]
+pub struct PlanFile<'a> {
+    pub number: u16,
+    pub nodes: u8,
+    pub demands: &'a [Demand],
+    pub rows: &'a [Row],
+    pub ghost few_demands: { length demands.now < 65536 },
+    pub ghost few_rows: { length rows.now < 65536 },
 }
 
-/// The low byte of a number.
-fn low(n: u16) -> u8
-    ensures { result ≡ n % 256 }
+/// Writes the line of a frame from a place on, and answers the place after it.
+fn put_frame(bytes: &mut [u8], at: usize, frame: Frame) -> usize
+    requires { at + length (frame_text frame) ≤ length bytes.old }
+    ensures written { bytes.new ≡ overwrite bytes.old at (frame_text frame) }
+    ensures next { result ≡ at + length (frame_text frame) }
+    ensures sized { Sized frame }
 {
-    (n % 256) as u8
-}
-
-/// Writes the line of a ring frame from a place on, and answers the place after it.
-fn put_ring(bytes: &mut [u8], at: usize, number: u16, nodes: u8) -> usize
-    requires { at + 9 ≤ length bytes.old }
-    ensures written { bytes.new ≡ overwrite bytes.old at (frame_text (RingFrame number nodes)) }
-    ensures next { result ≡ at + 9 }
-    ensures sized { Sized (RingFrame number nodes) }
-{
-    put_line(bytes, at, &[1, high(number), low(number), nodes])
-}
-
-/// Writes the line of a demand frame from a place on, and answers the place after it.
-fn put_demand(bytes: &mut [u8], at: usize, d: Demand) -> usize
-    requires { at + 13 ≤ length bytes.old }
-    ensures written { bytes.new ≡ overwrite bytes.old at (frame_text (DemandFrame d)) }
-    ensures next { result ≡ at + 13 }
-    ensures sized { Sized (DemandFrame d) }
-{
-    let frame = [2, high(d.number), low(d.number), d.lower, d.upper, d.units];
-    put_line(bytes, at, &frame)
-}
-
-/// Writes the line of a unit frame from a place on, and answers the place after it.
-fn put_row(bytes: &mut [u8], at: usize, row: Row) -> usize
-    requires { at + 13 ≤ length bytes.old }
-    ensures written { bytes.new ≡ overwrite bytes.old at (frame_text (UnitFrame row)) }
-    ensures next { result ≡ at + 13 }
-    ensures sized { Sized (UnitFrame row) }
-{
-    let slot = row.slot;
-    let frame = [
-        3,
-        high(row.demand),
-        low(row.demand),
-        row.side,
-        high(slot),
-        low(slot),
-    ];
-    put_line(bytes, at, &frame)
-}
-
-/// Writes the line of an end frame from a place on, and answers the place after it.
-fn put_end(bytes: &mut [u8], at: usize, demands: u16, units: u16, slots: u16) -> usize
-    requires { at + 15 ≤ length bytes.old }
-    ensures written { bytes.new ≡ overwrite bytes.old at (frame_text (EndFrame demands units slots)) }
-    ensures next { result ≡ at + 15 }
-    ensures sized { Sized (EndFrame demands units slots) }
-{
-    let frame = [
-        4,
-        high(demands),
-        low(demands),
-        high(units),
-        low(units),
-        high(slots),
-        low(slots),
-    ];
-    put_line(bytes, at, &frame)
-}
-
-/// Writes a line for each demand from a place on, and answers the place after them.
-fn put_demands(bytes: &mut [u8], at: usize, demands: &[Demand]) -> usize
-    requires { at + 13 * length demands.now ≤ length bytes.old }
-    ensures written { bytes.new ≡ overwrite bytes.old at (flat_map frame_text (map DemandFrame demands.now)) }
-    ensures next { result ≡ at + 13 * length demands.now }
-    ensures sized { Each (λ d. Sized (DemandFrame d)) demands.now }
-{
-    let mut place = at;
-    for d in demands {
-        place = put_demand(bytes, place, *d);
+    match frame {
+        Frame::RingFrame(h) => {
+            let [high, low] = h.number.to_be_bytes();
+            put_line(bytes, at, &[1, high, low, h.nodes])
+        }
+        Frame::DemandFrame(d) => {
+            let [high, low] = d.number.to_be_bytes();
+            put_line(bytes, at, &[2, high, low, d.lower, d.upper, d.units])
+        }
+        Frame::UnitFrame(r) => {
+            let [high, low] = r.demand.to_be_bytes();
+            let [slot_high, slot_low] = r.slot.to_be_bytes();
+            put_line(bytes, at, &[3, high, low, r.side, slot_high, slot_low])
+        }
+        Frame::EndFrame(t) => {
+            let [d_high, d_low] = t.demands.to_be_bytes();
+            let [u_high, u_low] = t.units.to_be_bytes();
+            let [s_high, s_low] = t.slots.to_be_bytes();
+            put_line(bytes, at, &[4, d_high, d_low, u_high, u_low, s_high, s_low])
+        }
     }
-    place
 }
 
-/// Writes a line for each row from a place on, and answers the place after them.
-fn put_rows(bytes: &mut [u8], at: usize, rows: &[Row]) -> usize
-    requires { at + 13 * length rows.now ≤ length bytes.old }
-    ensures written { bytes.new ≡ overwrite bytes.old at (flat_map frame_text (map UnitFrame rows.now)) }
-    ensures next { result ≡ at + 13 * length rows.now }
-    ensures sized { Each (λ d. Sized (UnitFrame d)) rows.now }
-{
-    let mut place = at;
-    for row in rows {
-        place = put_row(bytes, place, *row);
+impl PlanFile<'_> {
+    /// The length of the text, if so many bytes hold it.
+    fn room_for(&self, held: usize) -> Result<usize, Refusal>
+        ensures { result ≡ (if nat_le (file_length (length self.now.demands.now) (length self.now.rows.now)) held then Ok (file_length (length self.now.demands.now) (length self.now.rows.now)) else Err (TooFew (file_length (length self.now.demands.now) (length self.now.rows.now)))) }
+    {
+        let needed = 24 + 13 * (self.demands.len() + self.rows.len());
+        if held < needed {
+            return Err(Refusal::TooFew { needed });
+        }
+        Ok(needed)
     }
-    place
-}
 
-/// The length of the text of a plan, if so many bytes hold it.
-fn room_for(demands: usize, rows: usize, held: usize) -> Result<usize, Refusal>
-    requires demands { demands < 65536 }
-    requires rows { rows < 65536 }
-    ensures { result ≡ (if nat_le (file_length demands rows) held then Ok (file_length demands rows) else Err (TooFew (file_length demands rows))) }
-{
-    let needed = 24 + 13 * (demands + rows);
-    if held < needed {
-        return Err(Refusal::TooFew { needed });
+    /// Writes the text of the plan, which says that it has so many slots, into the front of `bytes`, and answers its length. The bytes past it stay.
+    /// Refused if the bytes are too few, and then nothing is written.
+    pub fn write(&self, slots: u16, bytes: &mut [u8]) -> Result<usize, Refusal>
+        ensures answer { result ≡ fronting (file_text self.now.number self.now.nodes self.now.demands.now self.now.rows.now slots) bytes.old }
+        ensures written { bytes.new ≡ fronted (file_text self.now.number self.now.nodes self.now.demands.now self.now.rows.now slots) bytes.old }
+        ensures back { IfOk result (λ n. ReadsBack self.now.number self.now.nodes self.now.demands.now self.now.rows.now slots (take n bytes.new)) }
+    {
+        let length = self.room_for(bytes.len())?;
+        let heading = Heading {
+            number: self.number,
+            nodes: self.nodes,
+        };
+        let totals = Totals {
+            demands: self.demands.len() as u16,
+            units: self.rows.len() as u16,
+            slots,
+        };
+        let frames = once(Frame::RingFrame(heading))
+            .chain(self.demands.iter().map(|d| Frame::DemandFrame(*d)))
+            .chain(self.rows.iter().map(|r| Frame::UnitFrame(*r)))
+            .chain(once(Frame::EndFrame(totals)));
+        let mut place = 0;
+        // Kept: each frame begins where the one before ended; a `fold` would carry the same place, and write the bytes from inside its closure.
+        for frame in frames {
+            place = put_frame(bytes, place, frame);
+        }
+        Ok(length)
     }
-    Ok(needed)
-}
-
-/// Writes the text of a plan into the front of `bytes`, and answers its length. The bytes past it stay. Refused if the bytes are too few, and
-/// then nothing is written.
-pub fn write_file(
-    number: u16,
-    nodes: u8,
-    demands: &[Demand],
-    rows: &[Row],
-    slots: u16,
-    bytes: &mut [u8],
-) -> Result<usize, Refusal>
-    requires demands { length demands.now < 65536 }
-    requires rows { length rows.now < 65536 }
-    ensures answer { result ≡ fronting (file_text number nodes demands.now rows.now slots) bytes.old }
-    ensures written { bytes.new ≡ fronted (file_text number nodes demands.now rows.now slots) bytes.old }
-    ensures back { IfOk result (λ n. ReadsBack number nodes demands.now rows.now slots (take n bytes.new)) }
-{
-    let length = room_for(demands.len(), rows.len(), bytes.len())?;
-    let after_ring = put_ring(bytes, 0, number, nodes);
-    let after_demands = put_demands(bytes, after_ring, demands);
-    let after_rows = put_rows(bytes, after_demands, rows);
-    put_end(
-        bytes,
-        after_rows,
-        demands.len() as u16,
-        rows.len() as u16,
-        slots,
-    );
-    Ok(length)
 }

@@ -1,8 +1,10 @@
 //! Why a call is refused. One enum has every cause of every call, with the values that are returned with it.
 #![tactic(auto)]
 
-ghost use Rattle.std.specs.Prelude.{◌≡◌};
-ghost use Rattle.refusals.specs.Refusals.{refusal_number, refusal_values};
+ghost use Rattle.std.specs.Prelude.{◌≡◌, Some};
+ghost use Rattle.refusals.specs.Refusals.{cause_words, refusal_number, refusal_values};
+
+use std::{error, fmt};
 
 /// The cause of a refusal. Lines, rows and characters count from 1. A place is the demand line in the checker, and 0 in calls on a book.
 /// docs/REFUSALS.md has the table.
@@ -64,6 +66,7 @@ pub enum Refusal {
 
 impl Refusal {
     /// The number of the cause.
+    // Kept: `From<Refusal> for u8` would be the same table, and `u8::from(refusal)` would not say which number it is: line, row or cause.
     pub fn number(self) -> u8
         ensures { result ≡ refusal_number self }
     {
@@ -71,31 +74,28 @@ impl Refusal {
             Refusal::RingSize => 1,
             Refusal::Planned => 2,
             Refusal::Unplanned => 3,
-            Refusal::EndOutside { place: _ } => 4,
-            Refusal::EndsFalling { place: _ } => 5,
-            Refusal::UnitsOutside { place: _ } => 6,
-            Refusal::NumberTaken { place: _ } => 7,
+            Refusal::EndOutside { .. } => 4,
+            Refusal::EndsFalling { .. } => 5,
+            Refusal::UnitsOutside { .. } => 6,
+            Refusal::NumberTaken { .. } => 7,
             Refusal::NumberUnknown => 8,
-            Refusal::BookFull { place: _ } => 9,
-            Refusal::UnitsPast { place: _ } => 10,
+            Refusal::BookFull { .. } => 9,
+            Refusal::UnitsPast { .. } => 10,
             Refusal::NodesOut => 11,
             Refusal::NodeOut => 12,
             Refusal::SlipsSpent => 13,
             Refusal::SlipUnknown => 14,
-            Refusal::TooFew { needed: _ } => 15,
-            Refusal::LineForm {
-                line: _,
-                character: _,
-            } => 16,
-            Refusal::FrameForm { line: _ } => 17,
-            Refusal::FrameOrder { line: _ } => 18,
-            Refusal::FiguresWrong { line: _ } => 19,
-            Refusal::DemandUnknown { row: _ } => 20,
-            Refusal::SideWrong { row: _ } => 21,
-            Refusal::SlotOutside { row: _ } => 22,
-            Refusal::Collision { row: _, met: _ } => 23,
-            Refusal::CountWrong { line: _ } => 24,
-            Refusal::NoWeight { link: _ } => 25,
+            Refusal::TooFew { .. } => 15,
+            Refusal::LineForm { .. } => 16,
+            Refusal::FrameForm { .. } => 17,
+            Refusal::FrameOrder { .. } => 18,
+            Refusal::FiguresWrong { .. } => 19,
+            Refusal::DemandUnknown { .. } => 20,
+            Refusal::SideWrong { .. } => 21,
+            Refusal::SlotOutside { .. } => 22,
+            Refusal::Collision { .. } => 23,
+            Refusal::CountWrong { .. } => 24,
+            Refusal::NoWeight { .. } => 25,
             Refusal::NoLink => 26,
         }
     }
@@ -134,3 +134,43 @@ impl Refusal {
         }
     }
 }
+
+impl fmt::Display for Refusal {
+    ghost output = { λ refusal. Some (cause_words refusal) };
+
+    /// Writes the cause in plain words.
+    fn fmt<W: fmt::Write>(&self, f: &mut fmt::Formatter<W>) -> fmt::Result {
+        f.write_str(match self {
+            Refusal::RingSize => "the ring size is not 3 to 16",
+            Refusal::Planned => "the book is planned",
+            Refusal::Unplanned => "the book has no plan",
+            Refusal::EndOutside { .. } => "an end or a node is not on the ring",
+            Refusal::EndsFalling { .. } => "the lower end is not below the upper one",
+            Refusal::UnitsOutside { .. } => "the units are not 1 to 48",
+            Refusal::NumberTaken { .. } => "the demand number is 0 or present already",
+            Refusal::NumberUnknown => "the demand number is not present",
+            Refusal::BookFull { .. } => "there are more than 128 demands",
+            Refusal::UnitsPast { .. } => "there are more than 1024 units",
+            Refusal::NodesOut => "a node is marked out",
+            Refusal::NodeOut => "this node is out already",
+            Refusal::SlipsSpent => "65535 slips have been issued",
+            Refusal::SlipUnknown => "the slip is of another book or its node is not out",
+            Refusal::TooFew { .. } => "there is not room enough",
+            Refusal::LineForm { .. } =>
+                "the line is not pairs of lower-case hexadecimal digits and a line feed",
+            Refusal::FrameForm { .. } => "no frame has this kind and length",
+            Refusal::FrameOrder { .. } => "the frame may not come here or the text stops early",
+            Refusal::FiguresWrong { .. } => "the figures of the end frame are wrong",
+            Refusal::DemandUnknown { .. } => "the row is of no demand",
+            Refusal::SideWrong { .. } =>
+                "the side is not 0 or 1 or unlike that of the demand's first row",
+            Refusal::SlotOutside { .. } => "the slot is not 1 to 1024",
+            Refusal::Collision { .. } => "the row shares a slot and a link with an earlier one",
+            Refusal::CountWrong { .. } => "the demand has not as many rows as units",
+            Refusal::NoWeight { .. } => "the weight of a link is 0",
+            Refusal::NoLink => "the link to shut is not 1 to 16",
+        })
+    }
+}
+
+impl error::Error for Refusal {}

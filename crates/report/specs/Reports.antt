@@ -1,13 +1,13 @@
 -- What is printed of a plan file: lines of a key and a value.
 use Rattle.std.specs.Prelude.{ℕ, List, [], ◌∷◌, ◌++◌, take, Some, Ok, Err, codes, Option, Result}
 use Rattle.refusals.specs.declared.Refusal.{Refusal}
-use Rattle.refusals.specs.Refusals.{refusal_number}
+use Rattle.refusals.specs.Refusals.{refusal_number, cause_words}
 use Rattle.keylines.specs.declared.Key.{Key}
 use Rattle.keylines.specs.declared.Key.TheVariants.{Book, Nodes, Demands, Units, Slots, Refused, Line, Character, Needed, Place, Row, Met}
 use Rattle.keylines.specs.declared.Entry.{Entry}
-use Rattle.keylines.specs.KeyLines.{key_line, entry_lines, spaced, shown_bytes}
+use Rattle.keylines.specs.KeyLines.{key_line, entry_line, entry_lines, spaced, shown_bytes}
 use Rattle.causes.specs.declared.Detail.{Detail}
-use Rattle.causes.specs.Causes.{cause_words, detail_of}
+use Rattle.causes.specs.Causes.{detail_of}
 use Rattle.lines.specs.Lines.{line_at}
 use Rattle.frames.specs.Reading.{reading}
 use Rattle.planfile.specs.declared.PlanFault.{PlanFault}
@@ -39,7 +39,7 @@ place_entries line d = known Line line ∷ if_known Character d.character ∷ if
 -- the number, the cause in words, the place, and the line at fault as it is shown
 abbrev pub refused_text : List ℕ → ℕ → Refusal → List ℕ
 refused_text text line refusal =
-    entry_lines (known Refused (refusal_number refusal) ∷ [])
+    entry_line (known Refused (refusal_number refusal))
     ++ (key_line (codes "cause") (cause_words refusal)
     ++ (entry_lines (place_entries line (detail_of refusal)) ++ (codes "text " ++ (shown_bytes (line_at text line) ++ codes "\n"))))
 

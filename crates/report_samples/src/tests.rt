@@ -76,11 +76,7 @@ const CASES: [Case; 12] = [
 fn files_are_reported(rt: HostRuntime) -> Result<(), Fail> {
     for case in &CASES {
         let found = report(rt.alloc(), case.text.as_bytes())?;
-        assert!(rt;
-            found.as_slice() == case.printed.as_bytes(),
-            "{}",
-            case.printed
-        );
+        assert!(rt; found.as_str() == case.printed, "{}", case.printed);
     }
     Ok(())
 }

@@ -1,30 +1,47 @@
--- The first best of numbers in a row, and the steps of the loop that keeps the best so far.
-use Rattle.std.proofs.Common.{◌≡◌, ℕ, zero, suc, ◌+◌, ◌-◌, ◌<◌, ◌≤◌, Bool, true, false, cond, eqb, ltb, List, [], ◌∷◌, ◌++◌, map, length, get_or, take, set, Ordering, Less, Equal, Greater, sym, refl, ap, ◌∙◌, subst, ap₂, arith}
-use Rattle.std.specs.List.{range_with_len, IsFirstBest, best_of}
-use Rattle.std.specs.Cmp.{IsTotalOrder, nat_cmp_total, on_total, back_total, IsStrictWeakOrder}
+-- The first best of numbers in a row, and what is kept of candidates that come one after another.
+use Rattle.std.proofs.Common.{◌≡◌, ℕ, zero, suc, ◌+◌, ◌-◌, ◌<◌, ◌≤◌, Bool, true, false, cond, eqb, ltb, List, [], ◌∷◌, ◌++◌, map, length, Option, None, Some, get_or, Ordering, Less, Equal, Greater, sym, refl, ap, ◌∙◌, subst, ap₂, arith}
+use Rattle.std.specs.List.{range_with_len, IsFirstBest, best_of, fold}
+use Rattle.std.specs.Iterator.Runs.{Run}
+use Rattle.std.specs.Option.{MatchOption, option_map}
+use Rattle.std.specs.Cmp.{IsTotalOrder, IsStrictWeakOrder}
 use Rattle.std.specs.Ordering.{is_lt, nat_cmp}
-use Rattle.std.proofs.lemmas.List.MinMax.{ranks_by, IsStrictWeakOrder-by_number, IsStrictWeakOrder-flip, IsFirstBest-keeps, IsFirstBest-takes, IsFirstBest-unique, IsFirstBest-from_best_of}
+use Rattle.std.proofs.lemmas.List.MinMax.{ranks_by, IsStrictWeakOrder-by_number, IsStrictWeakOrder-flip, IsFirstBest-from_best_of}
 use Rattle.std.proofs.lemmas.List.FromFn.{length-range_with_len, get_or-range_with_len}
-use Rattle.std.proofs.lemmas.List.{length-map, get_or-map, map-append, take_more_set, take_all}
+use Rattle.std.proofs.lemmas.List.{get_or_default, ext_get_or, map-append}
+use Rattle.std.proofs.lemmas.List.Sums.{fold-append}
 use Rattle.std.proofs.lemmas.Bool.{ltb-true, ltb-false}
 use Rattle.std.specs.declared.cmp.Reverse.{Reverse}
 use Rattle.ring.specs.declared.choosing.Best.{Best}
-use Rattle.ring.specs.Choosing.{beats, Leads, FirstBest, first_from, first_least, first_most, FirstLeast, FirstMost}
+use Rattle.ring.specs.Choosing.{beats, kept, first_best, FirstBest, first_from, first_least, first_most, FirstLeast, FirstMost}
 
--- ---- the loop
--- the next candidate beats the best so far
-pub lead_takes : {C M : Type 0} (cmp : M → M → Ordering) (all : List (Best C M)) (i b : ℕ) (x y : Best C M) → Leads cmp all i b → i < length all → x ≡ get_or all i x → y ≡ get_or all b y → cmp x.measure y.measure ≡ Less → (t : ℕ) → t ≡ i → (t < i + 1) × Leads cmp all (i + 1) t
-lead_takes cmp all i b x y lead h ex ey says t e =
-    let at : Leads cmp all (i + 1) i =
-    λ o. IsFirstBest-takes (ranks_by o (λ z. z.measure)) all i b x y (lead o) h ex ey (ap is_lt says) in
-    ((omega arith), subst (λ (v : ℕ). Leads cmp all (i + 1) v) (sym e) at)
+-- ---- what is kept of candidates that come one after another
+kept_of : {C M : Type 0} (cmp : M → M → Ordering) (b : Best C M) (xs : List (Best C M)) → fold (kept cmp) (Some b) xs ≡ Some (best_of (beats cmp) b xs)
+kept_of cmp b [] = refl
+kept_of cmp b (x ∷ xs) = kept_of cmp (cond (beats cmp x b) x b) xs
 
--- the next candidate does not beat the best so far
-pub lead_keeps : {C M : Type 0} (cmp : M → M → Ordering) (all : List (Best C M)) (i b : ℕ) (x y : Best C M) (r : Ordering) → is_lt r ≡ false → b < i → Leads cmp all i b → i < length all → x ≡ get_or all i x → y ≡ get_or all b y → cmp x.measure y.measure ≡ r → (t : ℕ) → t ≡ b → (t < i + 1) × Leads cmp all (i + 1) t
-lead_keeps cmp all i b x y r past low lead h ex ey says t e =
-    let at : Leads cmp all (i + 1) b =
-    λ o. IsFirstBest-keeps (ranks_by o (λ z. z.measure)) all i b x y (lead o) h ex ey (ap is_lt says ∙ past) in
-    ((omega arith), subst (λ (v : ℕ). Leads cmp all (i + 1) v) (sym e) at)
+-- in the end it is the first best of all of them
+pub first_best_is : {C M : Type 0} (cmp : M → M → Ordering) → IsTotalOrder cmp → (xs : List (Best C M)) →
+    MatchOption (first_best cmp xs) (length xs ≡ 0) (λ x. FirstBest cmp xs x)
+first_best_is cmp o [] = refl
+first_best_is {C = C} {M = M} cmp o (x ∷ xs) =
+    let f = IsFirstBest-from_best_of {beats = beats cmp} (ranks_by o (λ (z : Best C M). z.measure)) x xs in
+    let y = best_of (beats cmp) x xs in
+    subst (λ r. MatchOption r (length (x ∷ xs) ≡ 0) (λ z. FirstBest cmp (x ∷ xs) z)) (sym (kept_of cmp x xs))
+    (f.0, f.1.0, get_or_default (x ∷ xs) f.0 y x f.1.0 ∙ f.2, f.1)
+
+-- what is kept of one candidate more
+pub kept_more : {C M : Type 0} (cmp : M → M → Ordering) (mk : ℕ → Best C M) (a i : ℕ) →
+    first_best cmp (map mk (range_with_len a (i + 1))) ≡ kept cmp (first_best cmp (map mk (range_with_len a i))) (mk (a + i))
+kept_more cmp mk a i =
+    let next : i + 1 ≡ suc i = omega arith in
+    ap (λ k. first_best cmp (map mk (range_with_len a k))) next
+    ∙ ap (λ xs. first_best cmp (map mk xs)) (sym (counting_end a i))
+    ∙ ap (first_best cmp) (map-append mk (range_with_len a i) ((a + i) ∷ []))
+    ∙ fold-append (kept cmp) None (map mk (range_with_len a i)) (mk (a + i) ∷ [])
+  where
+    counting_end : (a m : ℕ) → range_with_len a m ++ (a + m) ∷ [] ≡ range_with_len a (suc m)
+    counting_end a zero = let e : a + 0 ≡ a = omega arith in ap (λ x. x ∷ []) e
+    counting_end a (suc m) = let e : a + suc m ≡ a + 1 + m = omega arith in ap (λ x. a ∷ (range_with_len (a + 1) m ++ x ∷ [])) e ∙ ap (λ xs. a ∷ xs) (counting_end (a + 1) m)
 
 -- ---- the first of a to b that none of the others beats
 -- the numbers a to b
@@ -68,34 +85,21 @@ first_most_lem a b g h =
     (f.0, (λ e l u. ltb-false (g (first_most a b g)) (g e) (f.1 e l u)), (λ e l u. ltb-true (g e) (g (first_most a b g)) (f.2 e l u)))
 
 -- ---- candidates that are made from numbers in a row
-best_of_same : {X : Type 0} (p q : X → X → Bool) → ((x y : X) → p x y ≡ q x y) → (a : X) (xs : List X) → best_of p a xs ≡ best_of q a xs
-best_of_same p q f a [] = refl
-best_of_same p q f a (x ∷ xs) = best_of_same p q f (cond (p x a) x a) xs ∙ ap (λ t. best_of q (cond t x a) xs) (f x a)
-
 -- the first best of mk a .. mk b is mk of the first best of a to b
-made_first : {C M : Type 0} (cmp : M → M → Ordering) (o : IsTotalOrder cmp) (mk : ℕ → Best C M) (wins : ℕ → ℕ → Bool) →
-    ((e f : ℕ) → beats cmp (mk e) (mk f) ≡ wins e f) → (a b : ℕ) → a ≤ b → (all : List (Best C M)) (x : Best C M) →
-    all ≡ map mk (range a b) → FirstBest cmp all x → x ≡ mk (first_from wins a b)
-made_first {C = C} {M = M} cmp o mk wins same a b h all x is first =
-    let by : ℕ → ℕ → Bool = λ e f. beats cmp (mk e) (mk f) in
-    let ranks : IsStrictWeakOrder by = ranks_by o (λ e. (mk e).measure) in
-    let m = suc (b - a) in
-    let p = placed by ranks a b h in
-    let long : length all ≡ m = ap length is ∙ length-map (range a b) mk ∙ length-range_with_len a m in
-    let k = first.0 in
-    let low : k < m = omega (arith, first.1, long) in
-    let lead = first.3 o in
-    let at : (i : ℕ) (d : ℕ) (z : Best C M) → i < m → get_or all i z ≡ mk (get_or (range a b) i d) =
-    λ i d z l. ap (λ xs. get_or xs i z) is ∙ get_or-map mk (range a b) i d z (omega (arith, l, length-range_with_len a m)) in
-    let moved : IsFirstBest by (range a b) m k = (
-      low,
-      (λ i d l. subst (λ v. beats cmp v (mk (get_or (range a b) k d)) ≡ false) (at i d x l) (subst (λ v. beats cmp (get_or all i x) v ≡ false) (at k d x low) (lead.1 i x (omega (arith, l, long))))),
-      (λ i d l. subst (λ v. beats cmp (mk (get_or (range a b) k d)) v ≡ true) (at i d x (omega (arith, l, low))) (subst (λ v. beats cmp v (get_or all i x) ≡ true) (at k d x low) (lead.2 i x l))),
-    ) in
-    let one : k ≡ p.0 = IsFirstBest-unique {beats = by} ranks (range a b) m k p.0 a moved p.3 in
-    let place : a + k ≡ a + p.0 = ap (λ j. a + j) one in
-    sym first.2 ∙ at k a x low
-    ∙ ap mk (get_or-range_with_len a m k a low ∙ place ∙ sym p.2 ∙ best_of_same by wins same a (range_with_len (a + 1) (b - a)))
+made_first : {C M : Type 0} (cmp : M → M → Ordering) (mk : ℕ → Best C M) (wins : ℕ → ℕ → Bool) →
+    ((e f : ℕ) → beats cmp (mk e) (mk f) ≡ wins e f) → (a b : ℕ) → first_best cmp (map mk (range a b)) ≡ Some (mk (first_from wins a b))
+made_first {C = C} {M = M} cmp mk wins same a b = kept_of cmp (mk a) (map mk (range_with_len (a + 1) (b - a))) ∙ ap Some (go a (range_with_len (a + 1) (b - a)))
+  where
+    pick : (t : Bool) (x y : ℕ) → cond t (mk x) (mk y) ≡ mk (cond t x y)
+    pick true x y = refl
+    pick false x y = refl
+
+    go : (x : ℕ) (xs : List ℕ) → best_of (beats cmp) (mk x) (map mk xs) ≡ mk (best_of wins x xs)
+    go x [] = refl
+    go x (y ∷ xs) =
+        ap (λ (t : Bool). best_of (beats cmp) (cond t (mk y) (mk x)) (map mk xs)) (same y x)
+        ∙ ap (λ (z : Best C M). best_of (beats cmp) z (map mk xs)) (pick (wins y x) y x)
+        ∙ go (cond (wins y x) y x) xs
 
 lower : (x y : ℕ) → is_lt (nat_cmp x y) ≡ ltb x y
 lower x y = go (ltb x y) (eqb x y)
@@ -110,41 +114,28 @@ higher : (x y : Reverse ℕ) → is_lt (nat_cmp y.0 x.0) ≡ ltb y.0 x.0
 higher x y = lower y.0 x.0
 
 -- measured by g, the first best of mk 1 .. mk n is that of the first least of g
-pub first_by_least : {C : Type 0} (mk : ℕ → Best C ℕ) (g : ℕ → ℕ) → ((e : ℕ) → (mk e).measure ≡ g e) → (n : ℕ) → 1 ≤ n → (all : List (Best C ℕ)) (x : Best C ℕ) →
-    all ≡ map mk (range_with_len 1 n) → FirstBest nat_cmp all x → x ≡ mk (first_least n g)
-first_by_least mk g is n h all x made first =
+pub first_by_least : {C : Type 0} (mk : ℕ → Best C ℕ) (g : ℕ → ℕ) → ((e : ℕ) → (mk e).measure ≡ g e) → (n : ℕ) → 1 ≤ n →
+    first_best nat_cmp (map mk (range_with_len 1 n)) ≡ Some (mk (first_least n g))
+first_by_least mk g is n h =
     let m : n ≡ suc (n - 1) = omega arith in
-    made_first nat_cmp nat_cmp_total mk (λ e f. ltb (g e) (g f))
-    (λ e f. lower (mk e).measure (mk f).measure ∙ ap₂ ltb (is e) (is f)) 1 n h all x (made ∙ ap (λ k. map mk (range_with_len 1 k)) m) first
+    ap (λ k. first_best nat_cmp (map mk (range_with_len 1 k))) m
+    ∙ made_first nat_cmp mk (λ e f. ltb (g e) (g f)) (λ e f. lower (mk e).measure (mk f).measure ∙ ap₂ ltb (is e) (is f)) 1 n
 
 -- measured by g reversed, the first best of mk a .. mk b is that of the first greatest of g
-pub first_by_most : {C : Type 0} (mk : ℕ → Best C (Reverse ℕ)) (g : ℕ → ℕ) → ((e : ℕ) → (mk e).measure.0 ≡ g e) → (a b : ℕ) → a ≤ b → (all : List (Best C (Reverse ℕ))) (x : Best C (Reverse ℕ)) →
-    all ≡ map mk (range_with_len a (b + 1 - a)) → FirstBest (λ x y. nat_cmp y.0 x.0) all x → x ≡ mk (first_most a b g)
-first_by_most mk g is a b h all x made first =
+pub first_by_most : {C : Type 0} (mk : ℕ → Best C (Reverse ℕ)) (g : ℕ → ℕ) → ((e : ℕ) → (mk e).measure.0 ≡ g e) → (a b : ℕ) → a ≤ b →
+    first_best (λ x y. nat_cmp y.0 x.0) (map mk (range_with_len a (b + 1 - a))) ≡ Some (mk (first_most a b g))
+first_by_most mk g is a b h =
     let m : b + 1 - a ≡ suc (b - a) = omega arith in
-    made_first (λ x y. nat_cmp y.0 x.0) (on_total (λ x. x.0) (back_total nat_cmp_total)) mk (λ e f. ltb (g f) (g e))
-    (λ e f. higher (mk e).measure (mk f).measure ∙ ap₂ ltb (is f) (is e)) a b h all x (made ∙ ap (λ k. map mk (range_with_len a k)) m) first
+    ap (λ k. first_best (λ (x y : Reverse ℕ). nat_cmp y.0 x.0) (map mk (range_with_len a k))) m
+    ∙ made_first (λ x y. nat_cmp y.0 x.0) mk (λ e f. ltb (g f) (g e)) (λ e f. higher (mk e).measure (mk f).measure ∙ ap₂ ltb (is f) (is e)) a b
 
--- ---- a list that is filled from a function of the place
--- one number more at the end
-counting_end : (a m : ℕ) → range_with_len a m ++ (a + m) ∷ [] ≡ range_with_len a (suc m)
-counting_end a zero = let e : a + 0 ≡ a = omega arith in ap (λ x. x ∷ []) e
-counting_end a (suc m) = let e : a + suc m ≡ a + 1 + m = omega arith in ap (λ x. a ∷ (range_with_len (a + 1) m ++ x ∷ [])) e ∙ ap (λ xs. a ∷ xs) (counting_end (a + 1) m)
-
--- one element more
-pub filled_more : {X : Type 0} (f : ℕ → X) (a : ℕ) (all : List X) (i : ℕ) (x : X) → i < length all → x ≡ f (a + i) → take i all ≡ map f (range_with_len a i) →
-    take (i + 1) (set all i x) ≡ map f (range_with_len a (i + 1))
-filled_more f a all i x lt is h =
-    let next : suc i ≡ i + 1 = omega arith in
-    take_more_set all i x lt
-    ∙ ap (λ y. take i all ++ y ∷ []) is
-    ∙ ap (λ xs. xs ++ f (a + i) ∷ []) h
-    ∙ sym (map-append f (range_with_len a i) ((a + i) ∷ []))
-    ∙ ap (map f) (counting_end a i)
-    ∙ ap (λ k. map f (range_with_len a k)) next
-
--- all of them
-pub filled_all : {X : Type 0} (f : ℕ → X) (a : ℕ) (all : List X) (i n : ℕ) → length all ≡ n → n ≤ i → i ≤ n → take i all ≡ map f (range_with_len a i) → all ≡ map f (range_with_len a n)
-filled_all f a all i n long low high h =
-    let same : i ≡ n = omega arith in
-    sym (take_all i all (omega arith)) ∙ h ∙ ap (λ k. map f (range_with_len a k)) same
+-- ---- a run of an iterator that gives numbers in a row
+pub counted : {S : Type 0} {steps : S → Option ℕ → S → Type 0} (p : Run steps) (a n : ℕ) → p.len ≡ n →
+    ((k : ℕ) → k < p.len → option_map (λ y. y) (p.at k) ≡ Some (a + k)) → p.items ≡ range_with_len a n
+counted p a n long at =
+    ext_get_or 0 p.items (range_with_len a n) (omega (arith, p.long, length-range_with_len a n))
+    (λ k l. let here : Some (get_or p.items k 0) ≡ Some (a + k) = sym (p.reads k 0 (omega (arith, p.long))) ∙ at k (omega (arith, p.long)) in
+    same_value here ∙ sym (get_or-range_with_len a n k 0 (omega (arith, p.long))))
+  where
+    same_value : {x y : ℕ} → Some x ≡ Some y → x ≡ y
+    same_value h = cc

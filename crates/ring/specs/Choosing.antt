@@ -1,8 +1,7 @@
 -- The first best of some candidates, each kept with its measure.
-use Rattle.std.specs.Prelude.{◌≡◌, ℕ, ◌+◌, ◌-◌, ◌<◌, ◌≤◌, Bool, List, length, nat_lt, slice_index_or}
+use Rattle.std.specs.Prelude.{◌≡◌, ℕ, ◌+◌, ◌-◌, ◌<◌, ◌≤◌, Bool, cond, List, length, nat_lt, slice_index_or, Option, None, Some, MatchOption}
 use Rattle.std.specs.declared.cmp.Ordering.{Ordering}
-use Rattle.std.specs.List.{range_with_len, IsFirstBest, best_of}
-use Rattle.std.specs.Cmp.{IsTotalOrder}
+use Rattle.std.specs.List.{range_with_len, IsFirstBest, best_of, fold}
 use Rattle.std.specs.Ordering.{is_lt}
 use Rattle.ring.specs.declared.choosing.Best.{Best}
 
@@ -10,13 +9,21 @@ use Rattle.ring.specs.declared.choosing.Best.{Best}
 abbrev pub beats : {C M : Type 0} → (M → M → Ordering) → Best C M → Best C M → Bool
 beats cmp x y = is_lt (cmp x.measure y.measure)
 
--- of the first i candidates, that at place b is the first that no other beats, where the answers of `cmp` are a total order
-abbrev pub Leads : {C M : Type 0} → (M → M → Ordering) → List (Best C M) → ℕ → ℕ → Type 0
-Leads cmp all i b = IsTotalOrder cmp → IsFirstBest (beats cmp) all i b
+-- the best so far, if there is one, or the next candidate where that beats it
+abbrev pub kept : {C M : Type 0} → (M → M → Ordering) → Option (Best C M) → Best C M → Option (Best C M)
+kept cmp None x = Some x
+kept cmp (Some b) x = Some (cond (beats cmp x b) x b)
 
 -- x is the first of all the candidates that no other beats: it stands at a place, nothing beats it, and it beats what stands before
 abbrev pub FirstBest : {C M : Type 0} → (M → M → Ordering) → List (Best C M) → Best C M → Type 0
-FirstBest cmp all x = (b : ℕ) × (b < length all) × (slice_index_or all b x ≡ x) × Leads cmp all (length all) b
+FirstBest cmp all x = (b : ℕ) × (b < length all) × (slice_index_or all b x ≡ x) × IsFirstBest (beats cmp) all (length all) b
+
+-- what is kept of all the candidates, one after another: the first best of them, and none of none
+abbrev pub first_best : {C M : Type 0} → (M → M → Ordering) → List (Best C M) → Option (Best C M)
+first_best cmp all = fold (kept cmp) None all
+
+abbrev pub IsFirstBestOf : {C M : Type 0} → (M → M → Ordering) → List (Best C M) → Option (Best C M) → Type 0
+IsFirstBestOf cmp all r = (r ≡ first_best cmp all) × MatchOption r (length all ≡ 0) (λ x. FirstBest cmp all x)
 
 -- ---- the first best of the numbers from a to b
 -- the first that none of the others beats

@@ -4,6 +4,7 @@
 #![tactic(auto)]
 
 pub mod choosing;
+pub mod links;
 pub mod routes;
 pub mod slots;
 
@@ -14,14 +15,15 @@ ghost use Rattle.ring.specs.Claims.{ClearByPlaces, LimitsDecided};
 pub use refusals::Refusal;
 
 /// The way round the ring that a demand takes from its lower end to its upper one.
-#[derive(Clone, Copy, PartialEq, Eq, Debug)]
+#[derive(Clone, Copy, PartialEq, Eq, Debug, Default)]
 pub enum Side {
+    #[default]
     Clockwise,
     CounterClockwise,
 }
 
 /// So many units of traffic between two nodes. The number, 1 to 65,535, is the demand's name; the lower end is below the upper one.
-#[derive(Clone, Copy, PartialEq, Eq, Debug)]
+#[derive(Clone, Copy, PartialEq, Eq, Debug, Default)]
 pub struct Demand {
     pub number: u16,
     pub lower: u8,
@@ -30,7 +32,7 @@ pub struct Demand {
 }
 
 /// A demand put on a side: each of its units takes the route between its ends on that side.
-#[derive(Clone, Copy, PartialEq, Eq, Debug)]
+#[derive(Clone, Copy, PartialEq, Eq, Debug, Default)]
 pub struct Route {
     pub demand: Demand,
     pub side: Side,
@@ -38,9 +40,10 @@ pub struct Route {
 
 /// One unit in a plan: the number of its demand, its side (0 clockwise, 1 counter-clockwise) and its slot.
 /// The numbers are raw, since a plan that was drawn elsewhere may hold any.
-#[derive(Clone, Copy, PartialEq, Eq, Debug)]
+#[derive(Clone, Copy, PartialEq, Eq, Debug, Default)]
 pub struct Row {
     pub demand: u16,
+    // Kept: a number and no `Side`, since the checker has to see, and refuse, a side that is neither.
     pub side: u8,
     pub slot: u16,
 }
@@ -53,12 +56,20 @@ pub struct Cut {
     pub total: u16,
 }
 
-impl Side {
-    /// The side as rows have it: 0 clockwise, 1 counter-clockwise.
-    pub fn code(self) -> u8
-        ensures { result ≡ code_of self }
-    {
-        match self {
+/// The figures of a plan: its slot count, and the load of each link, link e's at place e - 1 and 0 past the ring's last link.
+#[derive(Clone, Copy, PartialEq, Eq, Debug)]
+pub struct Figures {
+    pub slots: u16,
+    // Kept: an array of one length for all rings, since figures are answered by calls that cannot lack memory.
+    pub loads: [u16; 16],
+}
+
+/// The side as rows have it: 0 clockwise, 1 counter-clockwise.
+impl From<Side> for u8 {
+    ghost from_gives = { λ side r. r ≡ code_of side };
+
+    fn from(side: Side) -> u8 {
+        match side {
             Side::Clockwise => 0,
             Side::CounterClockwise => 1,
         }
@@ -66,9 +77,7 @@ impl Side {
 }
 
 /// What two of the definitions mean in other words: that no two rows of a plan collide, said by places; and the limits, as a test.
-pub fn definitions_mean() -> u8
+pub fn definitions_mean()
     ensures places { ClearByPlaces }
     ensures limits { LimitsDecided }
-{
-    0
-}
+{}

@@ -11,7 +11,7 @@ use crate::{Route, Side};
 pub fn is_within(lower: u8, upper: u8, link: u8) -> bool
     ensures { result ≡ within lower upper link }
 {
-    lower <= link && link < upper
+    (lower..upper).contains(&link)
 }
 
 /// Whether the route between the ends on that side holds the link.
@@ -32,29 +32,20 @@ impl Route {
     {
         is_over(self.side, self.demand.lower, self.demand.upper, link)
     }
-}
 
-/// The mask, made from the last link down.
-fn mask_links(n: u8, side: Side, lower: u8, upper: u8) -> u16
-    requires { n ≤ 16 }
-    ensures { result ≡ link_mask n (code_of side) lower upper }
-{
-    let mut mask: u16 = 0;
-    let mut e = n;
-    while e > 0 {
-        mask = 2 * mask + is_over(side, lower, upper, e) as u16;
-        e -= 1;
+    /// The links of the ring of n nodes that the route holds: bit e - 1 for link e. The masks of two routes have a bit in common exactly where
+    /// the routes share a link.
+    // Kept: how many nodes a ring has is a number under a clause here, and no type, since a route is asked for its mask on rings of any size up to 16.
+    pub fn link_mask(&self, n: u8) -> u16
+        requires { n ≤ 16 }
+        ensures value { result ≡ link_mask n (code_of self.now.side) self.now.demand.lower self.now.demand.upper }
+        ensures bits { BitForEachLink n (code_of self.now.side) self.now.demand.lower self.now.demand.upper result }
+        ensures meets { MeetsWhereRoutesShare n (code_of self.now.side) self.now.demand.lower self.now.demand.upper result }
+    {
+        let mut mask = 0;
+        for link in (1..=n).rev() {
+            mask = 2 * mask + u16::from(self.holds_link(link));
+        }
+        mask
     }
-    mask
-}
-
-/// The links of the ring of n nodes that the route between the ends on that side holds: bit e - 1 for link e. Two such masks have a bit in
-/// common exactly where the routes share a link.
-pub fn link_mask(n: u8, side: Side, lower: u8, upper: u8) -> u16
-    requires { n ≤ 16 }
-    ensures value { result ≡ link_mask n (code_of side) lower upper }
-    ensures bits { BitForEachLink n (code_of side) lower upper result }
-    ensures meets { MeetsWhereRoutesShare n (code_of side) lower upper result }
-{
-    mask_links(n, side, lower, upper)
 }

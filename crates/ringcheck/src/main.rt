@@ -2,33 +2,15 @@
 #![tactic(auto)]
 
 use report::report;
-use std::io::{Read, Write};
+use std::io::Read;
 
 /// How many bytes of standard input are read at most.
-const MOST: usize = 65536;
-
-/// The first bytes of standard input, at most as many as are read.
-fn read_input(rt: &HostRuntime) -> anyhow::Result<Vec<u8>> {
-    let mut bytes = vec![in rt.alloc(); 0u8; MOST]?;
-    let mut input = rt.stdin();
-    let mut at = 0;
-    for _ in 0..MOST {
-        if at >= bytes.len() {
-            break;
-        }
-        let count = input.read(&mut bytes[at..])?;
-        if count == 0 {
-            break;
-        }
-        at += count;
-    }
-    bytes.truncate(at);
-    Ok(bytes)
-}
+const MOST: u64 = 65536;
 
 fn main(rt: HostRuntime) -> anyhow::Result<()> {
-    let text = read_input(&rt)?;
-    let found = report(rt.alloc(), text.as_slice())?;
-    rt.stdout().write_all(found.as_slice())?;
+    let mut text = Vec::new(rt.alloc());
+    rt.stdin().take(MOST).read_to_end(&mut text)?;
+    let found = report(rt.alloc(), &text)?;
+    print!(rt; "{found}")?;
     Ok(())
 }

@@ -4,77 +4,49 @@
 //! then the plan with the best link shut; then the heaviest cut and the lower bound, which no plan can beat. All figures come from the library's calls.
 #![tactic(auto)]
 
-ghost use Rattle.std.specs.Prelude.{◌≡◌, ◌≤◌};
-ghost use Rattle.ring.specs.Ring.{WithinLimits};
+ghost use Rattle.std.specs.Prelude.{◌≡◌, ◌≤◌, true};
+ghost use Rattle.ring.specs.Ring.{within_limits};
 ghost use Rattle.ring.specs.Sides.{route_units};
 
-use bounds::cuts::{heaviest_cut, lower_bound};
-use bounds::loads::{least_loaded, link_loads};
+use bounds::cuts::RingDemands;
+use bounds::loads::RingRoutes;
 use ring::{Demand, Route, Row, Side};
 use rules::shut::ShutLink;
 use rules::weights::Weights;
 use rules::{Rule, ShortSide, choose_routes};
-use slotting::{best_link, draw};
+use slotting::{PlanRows, Traffic, best_link, draw};
 
 /// The nodes of the ring, and as many links.
 const NODES: u8 = 6;
 
-/// A place for a route, to be filled.
-const NO_ROUTE: Route = Route {
-    demand: Demand {
-        number: 0,
-        lower: 0,
-        upper: 0,
-        units: 0,
-    },
-    side: Side::Clockwise,
-};
+/// One unit of traffic between two nodes.
+fn between(number: u16, lower: u8, upper: u8) -> Demand
+    ensures { result ≡ record { number = number; lower = lower; upper = upper; units = 1 } }
+{
+    Demand {
+        number,
+        lower,
+        upper,
+        units: 1,
+    }
+}
 
 /// One unit between each two neighbours. The neighbours 6 and 1 are the ends 1 and 6, the lower first.
 fn neighbours() -> [Demand; 6]
-    ensures { WithinLimits 6 result }
+    ensures { within_limits 6 result ≡ true }
 {
     [
-        Demand {
-            number: 1,
-            lower: 1,
-            upper: 2,
-            units: 1,
-        },
-        Demand {
-            number: 2,
-            lower: 2,
-            upper: 3,
-            units: 1,
-        },
-        Demand {
-            number: 3,
-            lower: 3,
-            upper: 4,
-            units: 1,
-        },
-        Demand {
-            number: 4,
-            lower: 4,
-            upper: 5,
-            units: 1,
-        },
-        Demand {
-            number: 5,
-            lower: 5,
-            upper: 6,
-            units: 1,
-        },
-        Demand {
-            number: 6,
-            lower: 1,
-            upper: 6,
-            units: 1,
-        },
+        between(1, 1, 2),
+        between(2, 2, 3),
+        between(3, 3, 4),
+        between(4, 4, 5),
+        between(5, 5, 6),
+        between(6, 1, 6),
     ]
 }
 
 /// The name of a side.
+// Kept: no other program prints a side, and a `Display` for it would have to fill a column by itself.
 fn side_name(side: Side) -> &'static str {
     match side {
         Side::Clockwise => "clockwise",
@@ -84,11 +56,14 @@ fn side_name(side: Side) -> &'static str {
 
 /// Prints a demand with its side and the links of its route.
 fn print_route(rt: &HostRuntime, route: &Route) -> anyhow::Result<()> {
-    let number = route.demand.number;
-    let lower = route.demand.lower;
-    let upper = route.demand.upper;
-    let side = side_name(route.side);
-    print!(rt; "  {number:>6}  {lower}-{upper}   {side:<17} ")?;
+    let demand = &route.demand;
+    print!(rt;
+        "  {:>6}  {}-{}   {:<17} ",
+        demand.number,
+        demand.lower,
+        demand.upper,
+        side_name(route.side)
+    )?;
     for link in 1..=NODES {
         if route.holds_link(link) {
             print!(rt; " {link}")?;
@@ -111,79 +86,76 @@ fn print_routes(rt: &HostRuntime, routes: &[Route]) -> anyhow::Result<()> {
 fn print_loads(rt: &HostRuntime, routes: &[Route]) -> anyhow::Result<()>
     requires { route_units routes.now ≤ 1024 }
 {
-    let loads = link_loads(NODES, routes);
+    let ring = RingRoutes {
+        nodes: NODES,
+        routes,
+    };
+    let loads = ring.link_loads();
     print!(rt; "  loads of the links 1 to {NODES}:")?;
-    for load in &loads[0..usize::from(NODES)] {
+    for load in &loads[..usize::from(NODES)] {
         print!(rt; " {load}")?;
     }
-    let least = least_loaded(NODES, routes);
-    let link = least.candidate;
-    let load = least.measure;
-    println!(rt; "; the first of least load is link {link}, load {load}")?;
+    let least = ring.least_loaded();
+    println!(rt;
+        "; the first of least load is link {}, load {}",
+        least.candidate, least.measure
+    )?;
     Ok(())
 }
 
-/// Prints the rows of a plan, a line each, and the slot count.
+/// Prints the rows of a plan and the slot count.
 fn print_plan(rt: &HostRuntime, rows: &[Row], slots: u16) -> anyhow::Result<()> {
     print!(rt; "  rows, as number/side/slot:")?;
     for row in rows {
-        let number = row.demand;
-        let side = row.side;
-        let slot = row.slot;
-        print!(rt; " {number}/{side}/{slot}")?;
+        print!(rt; " {}/{}/{}", row.demand, row.side, row.slot)?;
     }
     println!(rt; "; slot count {slots}")?;
     Ok(())
 }
 
 /// Prints the plan that is drawn by a rule.
-fn print_drawing<R: Rule>(rt: &HostRuntime, demands: &[Demand], rule: &R) -> anyhow::Result<()>
-    requires { WithinLimits 6 demands.now }
-{
-    let mut sheet = [0u16; 1024];
-    let mut rows = Vec::with_capacity(rt.alloc(), 1024)?;
-    let Ok(plan) = draw(NODES, demands, rule, &mut sheet, &mut rows) else {
+fn print_drawing<R: Rule>(rt: &HostRuntime, traffic: &Traffic, rule: &R) -> anyhow::Result<()> {
+    let mut sheet = [0; 1024];
+    let mut rows = PlanRows::with_room(rt.alloc())?;
+    let Ok(plan) = draw(traffic, rule, &mut sheet, &mut rows) else {
         unreachable()
     };
     print_plan(rt, rows.as_slice(), plan.slots)
 }
 
 /// Prints the plan that is drawn with the best link shut.
-fn print_best(rt: &HostRuntime, demands: &[Demand]) -> anyhow::Result<()>
-    requires { WithinLimits 6 demands.now }
-{
-    let mut sheet = [0u16; 1024];
-    let mut rows = Vec::with_capacity(rt.alloc(), 1024)?;
-    let Ok(plan) = best_link(NODES, demands, &mut sheet, &mut rows) else {
+fn print_best(rt: &HostRuntime, traffic: &Traffic) -> anyhow::Result<()> {
+    let mut sheet = [0; 1024];
+    let mut rows = PlanRows::with_room(rt.alloc())?;
+    let Ok(plan) = best_link(traffic, &mut sheet, &mut rows) else {
         unreachable()
     };
-    let link = plan.link;
-    println!(rt; "\nBy the best link, which is link {link}:")?;
-    print_plan(rt, rows.as_slice(), plan.slots)
+    println!(rt; "\nBy the best link, which is link {}:", plan.link)?;
+    print_plan(rt, rows.as_slice(), plan.figures.slots)
 }
 
 /// Prints what a rule makes of the demands: their routes, the loads of the links, and a plan.
-fn print_rule<R: Rule>(rt: &HostRuntime, demands: &[Demand], rule: &R) -> anyhow::Result<()>
-    requires { WithinLimits 6 demands.now }
-{
-    let mut places = [NO_ROUTE; 128];
-    let routes = &mut places[0..demands.len()];
-    choose_routes(NODES, demands, rule, routes);
+fn print_rule<R: Rule>(rt: &HostRuntime, traffic: &Traffic, rule: &R) -> anyhow::Result<()> {
+    let mut places = vec![in rt.alloc(); Route::default(); traffic.demands.len()]?;
+    let routes = places.as_mut_slice();
+    choose_routes(traffic.nodes, traffic.demands, rule, routes);
     print_routes(rt, routes)?;
     print_loads(rt, routes)?;
-    print_drawing(rt, demands, rule)
+    print_drawing(rt, traffic, rule)
 }
 
 /// Prints the heaviest cut and the lower bound, which are the same whatever the routing.
-fn print_cut(rt: &HostRuntime, demands: &[Demand]) -> anyhow::Result<()>
-    requires { WithinLimits 6 demands.now }
-{
-    let cut = heaviest_cut(NODES, demands);
-    let first = cut.first;
-    let second = cut.second;
-    let total = cut.total;
-    println!(rt; "  the heaviest cut is that at links {first} and {second}, total {total}")?;
-    let slots = lower_bound(NODES, demands);
+fn print_cut(rt: &HostRuntime, traffic: &Traffic) -> anyhow::Result<()> {
+    let ring = RingDemands {
+        nodes: traffic.nodes,
+        demands: traffic.demands,
+    };
+    let cut = ring.heaviest_cut();
+    println!(rt;
+        "  the heaviest cut is that at links {} and {}, total {}",
+        cut.first, cut.second, cut.total
+    )?;
+    let slots = ring.lower_bound();
     println!(rt; "  lower bound: every plan has at least {slots} in its slot count")?;
     Ok(())
 }
@@ -191,7 +163,7 @@ fn print_cut(rt: &HostRuntime, demands: &[Demand]) -> anyhow::Result<()>
 /// Prints the weights that count, link by link.
 fn print_weights(rt: &HostRuntime, weights: &[u16; 16]) -> anyhow::Result<()> {
     print!(rt; "\nBy weights of the links:")?;
-    for weight in &weights[0..usize::from(NODES)] {
+    for weight in &weights[..usize::from(NODES)] {
         print!(rt; " {weight}")?;
     }
     println!(rt; "")?;
@@ -200,21 +172,25 @@ fn print_weights(rt: &HostRuntime, weights: &[u16; 16]) -> anyhow::Result<()> {
 
 fn main(rt: HostRuntime) -> anyhow::Result<()> {
     let demands = neighbours();
+    let traffic = Traffic {
+        nodes: NODES,
+        demands: &demands,
+    };
     println!(rt; "A ring of {NODES} nodes, one unit between each two neighbours.")?;
     println!(rt; "\nBy the short side:")?;
-    print_rule(&rt, &demands, &ShortSide)?;
+    print_rule(&rt, &traffic, &ShortSide)?;
     let Ok(shut) = ShutLink::new(NODES) else {
         unreachable()
     };
     println!(rt; "\nWith link {NODES} shut:")?;
-    print_rule(&rt, &demands, &shut)?;
+    print_rule(&rt, &traffic, &shut)?;
     let weights = [1, 1, 10, 1, 1, 1, 1, 1, 1, 1, 1, 1, 1, 1, 1, 1];
     let Ok(light) = Weights::new(weights) else {
         unreachable()
     };
     print_weights(&rt, &weights)?;
-    print_rule(&rt, &demands, &light)?;
-    print_best(&rt, &demands)?;
+    print_rule(&rt, &traffic, &light)?;
+    print_best(&rt, &traffic)?;
     println!(rt; "\nWhatever the routing:")?;
-    print_cut(&rt, &demands)
+    print_cut(&rt, &traffic)
 }

@@ -8,8 +8,9 @@
 pub mod shut;
 pub mod weights;
 
-ghost use Rattle.std.specs.Prelude.{◌≡◌, ℕ, length};
+ghost use Rattle.std.specs.Prelude.{◌≡◌, ℕ, length, if◌then◌else◌};
 ghost use Rattle.ring.specs.declared.Side.{Side};
+ghost use Rattle.ring.specs.declared.Side.TheVariants.{Clockwise, CounterClockwise};
 ghost use Rattle.ring.specs.Sides.{Parallel, Elsewhere, on_ring, route_by, routes_by, short_side, shut as shut_side, light_side};
 ghost use Rattle.rules.specs.Law.{LongWaysBreakTheLaw};
 ghost use Rattle.ring.proofs.Laws.{short_parallel, short_elsewhere, shut_parallel, shut_elsewhere, light_parallel, light_elsewhere};
@@ -19,6 +20,7 @@ use ring::{Demand, Route, Side};
 use shut::ShutLink;
 use weights::Weights;
 
+// Kept: the ends are two numbers here, and no struct, since a rule takes any numbers, and this form is the one that rules of one's own implement.
 /// A rule chooses the side for the ends of a demand on a ring of n nodes.
 pub trait Rule {
     /// The side that the rule means, for a ring size, a lower end and an upper end.
@@ -50,23 +52,33 @@ pub fn choose_routes<R: Rule>(n: u8, demands: &[Demand], rule: &R, routes: &mut 
     requires { length routes.old ≡ length demands.now }
     ensures { routes.new ≡ routes_by (R.side rule.now) n demands.now }
 {
+    // Kept: over `routes.iter_mut().zip(demands)`, a proof knows nothing of what the loop wrote, since no name there stands for the routes.
     for (i, d) in demands.iter().enumerate() {
         routes[i] = route_by(n, *d, rule);
     }
 }
 
 /// The law has teeth: no rule may send the pairs 1-2 and 2-3 of a three-node ring the long way, let alone all three pairs.
-pub fn long_ways_break_the_law() -> u8
+pub fn long_ways_break_the_law()
     ensures { LongWaysBreakTheLaw }
-{
-    0
-}
+{}
 
 /// Whether a ring may have n nodes, and then has these ends, the lower first.
 fn on_ring(n: u8, lower: u8, upper: u8) -> bool
     ensures { result ≡ on_ring n lower upper }
 {
-    3 <= n && n <= 16 && 1 <= lower && lower < upper && upper <= n
+    (3..=16).contains(&n) && 1 <= lower && lower < upper && upper <= n
+}
+
+/// Counter-clockwise where the test passed, else clockwise.
+fn side_by(passed: bool) -> Side
+    ensures { result ≡ (if passed then CounterClockwise else Clockwise) }
+{
+    if passed {
+        Side::CounterClockwise
+    } else {
+        Side::Clockwise
+    }
 }
 
 /// Takes the route with fewer links, clockwise on a tie.
@@ -81,11 +93,7 @@ impl Rule for ShortSide {
     ghost elsewhere = { λ _. short_elsewhere };
 
     fn choose(&self, n: u8, lower: u8, upper: u8) -> Side {
-        if on_ring(n, lower, upper) && n < 2 * (upper - lower) {
-            Side::CounterClockwise
-        } else {
-            Side::Clockwise
-        }
+        side_by(on_ring(n, lower, upper) && n < 2 * (upper - lower))
     }
 }
 
@@ -97,11 +105,7 @@ impl Rule for ShutLink {
     ghost elsewhere = { λ r. shut_elsewhere r.link };
 
     fn choose(&self, n: u8, lower: u8, upper: u8) -> Side {
-        if on_ring(n, lower, upper) && is_within(lower, upper, self.shut_on(n)) {
-            Side::CounterClockwise
-        } else {
-            Side::Clockwise
-        }
+        side_by(on_ring(n, lower, upper) && is_within(lower, upper, self.shut_on(n)))
     }
 }
 
@@ -113,13 +117,10 @@ impl Rule for Weights {
     ghost elsewhere = { λ r. light_elsewhere r.weights };
 
     fn choose(&self, n: u8, lower: u8, upper: u8) -> Side {
-        if on_ring(n, lower, upper)
-            && self.weight_of(n, Side::CounterClockwise, lower, upper)
-                < self.weight_of(n, Side::Clockwise, lower, upper)
-        {
-            Side::CounterClockwise
-        } else {
-            Side::Clockwise
-        }
+        side_by(
+            on_ring(n, lower, upper)
+                && self.weight_of(n, Side::CounterClockwise, lower, upper)
+                    < self.weight_of(n, Side::Clockwise, lower, upper),
+        )
     }
 }

@@ -18,7 +18,7 @@ impl ShutLink {
     pub fn new(link: u8) -> Result<ShutLink, Refusal>
         ensures { MatchResult result (λ s. (s.link ≡ link) × (1 ≤ link) × (link ≤ 16)) (λ e. (e ≡ NoLink) × (1 ≤ link → link ≤ 16 → ⊥)) }
     {
-        if link == 0 || link > 16 {
+        if !(1..=16).contains(&link) {
             return Err(Refusal::NoLink);
         }
         Ok(ShutLink { link })

@@ -10,6 +10,7 @@ use ring::{Refusal, Side};
 /// Takes the route of smaller total weight, clockwise on a tie. The weight of link e stands at place e - 1, and on a ring of n nodes the first n count.
 #[derive(Clone, Copy, Debug)]
 pub struct Weights {
+    // Kept: a weight for each link that any ring can have; a rule is plain data, and copied.
     weights: [u16; 16],
 }
 
@@ -18,14 +19,12 @@ impl Weights {
     pub fn new(weights: [u16; 16]) -> Result<Weights, Refusal>
         ensures { MatchResult result (λ w. (w.weights ≡ weights) × Weighty weights) (λ e. FirstWeightless weights e) }
     {
-        for k in 0..16 {
-            if weights[k] == 0 {
-                return Err(Refusal::NoWeight {
-                    link: (k + 1) as u8,
-                });
-            }
+        match weights.iter().position(|w| *w == 0) {
+            Some(k) => Err(Refusal::NoWeight {
+                link: (k + 1) as u8,
+            }),
+            None => Ok(Weights { weights }),
         }
-        Ok(Weights { weights })
     }
 
     /// The total weight of the links that the route between the ends on that side holds.
@@ -33,10 +32,12 @@ impl Weights {
         requires { n ≤ 16 }
         ensures { result ≡ weight_of self.now.weights n (code_of side) lower upper }
     {
-        let mut total: u32 = 0;
+        // Kept: over `(1..=n).zip(&self.weights)`, as a chain with `sum`, it was not proved that the total fits, since nothing there says that a weight
+        // is below 65,536; what is read at an index is known to be.
+        let mut total = 0;
         for e in 0..n {
             if is_over(side, lower, upper, e + 1) {
-                total += self.weights[e as usize] as u32;
+                total += u32::from(self.weights[usize::from(e)]);
             }
         }
         total

@@ -1,9 +1,8 @@
 //! What the calls answer on sample rings, and where they refuse.
 
-use bounds::cuts::{cut_total, heaviest_cut, lower_bound};
-use bounds::loads::{least_loaded, link_loads};
+use bounds::cuts::{RingDemands, cut_total};
+use bounds::loads::RingRoutes;
 use ring::choosing::{Best, first_best};
-use ring::routes::link_mask;
 use ring::slots::slot_count;
 use ring::{Cut, Demand, Refusal, Route, Row, Side};
 use rules::shut::ShutLink;
@@ -20,17 +19,6 @@ fn between(number: u16, lower: u8, upper: u8, units: u8) -> Demand {
     }
 }
 
-/// A place for a route, to be filled.
-const NO_ROUTE: Route = Route {
-    demand: Demand {
-        number: 0,
-        lower: 0,
-        upper: 0,
-        units: 0,
-    },
-    side: Side::Clockwise,
-};
-
 #[test]
 fn opposite_nodes_of_six(rt: HostRuntime) {
     let demands = [
@@ -38,8 +26,12 @@ fn opposite_nodes_of_six(rt: HostRuntime) {
         between(2, 2, 5, 1),
         between(3, 3, 6, 1),
     ];
-    assert_eq!(rt; heaviest_cut(6, &demands).total, 3);
-    assert_eq!(rt; lower_bound(6, &demands), 2);
+    let demanded = RingDemands {
+        nodes: 6,
+        demands: &demands,
+    };
+    assert_eq!(rt; demanded.heaviest_cut().total, 3);
+    assert_eq!(rt; demanded.lower_bound(), 2);
 }
 
 #[test]
@@ -50,8 +42,12 @@ fn crossing_demands_on_four_nodes(rt: HostRuntime) {
         second: 3,
         total: 3,
     };
-    assert_eq!(rt; heaviest_cut(4, &demands), cut);
-    assert_eq!(rt; lower_bound(4, &demands), 2);
+    let demanded = RingDemands {
+        nodes: 4,
+        demands: &demands,
+    };
+    assert_eq!(rt; demanded.heaviest_cut(), cut);
+    assert_eq!(rt; demanded.lower_bound(), 2);
     assert_eq!(rt; cut_total(&demands, 2, 4), 3);
     assert_eq!(rt;
         cut_total(&demands, 1, 2),
@@ -62,10 +58,14 @@ fn crossing_demands_on_four_nodes(rt: HostRuntime) {
 
 #[test]
 fn loads_by_the_short_side_on_four_nodes(rt: HostRuntime) {
-    let mut routes = [NO_ROUTE; 2];
+    let mut routes = [Route::default(); 2];
     let demands = [between(1, 1, 3, 2), between(2, 2, 4, 1)];
     choose_routes(4, &demands, &ShortSide, &mut routes);
-    let loads = link_loads(4, &routes);
+    let routed = RingRoutes {
+        nodes: 4,
+        routes: &routes,
+    };
+    let loads = routed.link_loads();
     assert_eq!(rt; loads[0], 2);
     assert_eq!(rt; loads[1], 3);
     assert_eq!(rt; loads[2], 1);
@@ -80,9 +80,17 @@ fn no_demand_on_three_nodes(rt: HostRuntime) {
         second: 2,
         total: 0,
     };
-    assert_eq!(rt; heaviest_cut(3, &[]), cut);
-    assert_eq!(rt; lower_bound(3, &[]), 0);
-    let least = least_loaded(3, &[]);
+    let demanded = RingDemands {
+        nodes: 3,
+        demands: &[],
+    };
+    assert_eq!(rt; demanded.heaviest_cut(), cut);
+    assert_eq!(rt; demanded.lower_bound(), 0);
+    let routed = RingRoutes {
+        nodes: 3,
+        routes: &[],
+    };
+    let least = routed.least_loaded();
     assert_eq!(rt; least.candidate, 1);
     assert_eq!(rt; least.measure, 0);
 }
@@ -158,12 +166,19 @@ fn off_the_ring_the_short_side_is_clockwise(rt: HostRuntime) {
     assert_eq!(rt; ShortSide.choose(255, 0, 255), Side::Clockwise);
 }
 
+fn route(side: Side, lower: u8, upper: u8) -> Route {
+    Route {
+        demand: between(1, lower, upper, 1),
+        side,
+    }
+}
+
 #[test]
 fn masks_have_a_bit_for_each_link(rt: HostRuntime) {
-    assert_eq!(rt; link_mask(4, Side::Clockwise, 2, 4), 0b0110);
-    assert_eq!(rt; link_mask(4, Side::CounterClockwise, 2, 4), 0b1001);
-    assert_eq!(rt; link_mask(16, Side::CounterClockwise, 1, 2), 0xfffe);
-    assert_eq!(rt; link_mask(16, Side::Clockwise, 1, 16), 0x7fff);
+    assert_eq!(rt; route(Side::Clockwise, 2, 4).link_mask(4), 0b0110);
+    assert_eq!(rt; route(Side::CounterClockwise, 2, 4).link_mask(4), 0b1001);
+    assert_eq!(rt; route(Side::CounterClockwise, 1, 2).link_mask(16), 0xfffe);
+    assert_eq!(rt; route(Side::Clockwise, 1, 16).link_mask(16), 0x7fff);
 }
 
 fn row(slot: u16) -> Row {
@@ -213,8 +228,21 @@ fn the_first_of_equals_is_best(rt: HostRuntime) -> Result<(), Fail> {
             measure: 1u16,
         },
     ];
-    let best = first_best(&all).ok_or("some")?;
+    let best = first_best(all.iter().copied()).ok_or("some")?;
     assert_eq!(rt; best.candidate, 'b');
-    assert!(rt; first_best(&all[0..0]).is_none());
+    assert!(rt; first_best(all[0..0].iter().copied()).is_none());
+    Ok(())
+}
+
+#[test]
+fn the_first_best_of_candidates_elsewhere(rt: HostRuntime) -> Result<(), Fail> {
+    let names = ["two", "one", "one again"];
+    let measures = [2u16, 1, 1];
+    let all = names.iter().zip(&measures).map(|(name, measure)| Best {
+        candidate: name,
+        measure,
+    });
+    let best = first_best(all).ok_or("some")?;
+    assert_eq!(rt; *best.candidate, "one");
     Ok(())
 }

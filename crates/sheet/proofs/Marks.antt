@@ -1,13 +1,13 @@
 -- How units change the marks, and how many marks they use.
-use Rattle.std.proofs.Common.{◌≡◌, ℕ, suc, ◌+◌, ◌≤◌, Bool, true, false, cond, not, eqb, List, [], ◌∷◌, ◌++◌, length, get_or, replicate, fold, sym, refl, ap, ◌∙◌, ⊎_elim, arith}
-use lib.Bits.{bit_or}
-use Rattle.std.specs.List.{prefix_len}
+use Rattle.std.proofs.Common.{◌≡◌, ℕ, suc, ◌+◌, ◌<◌, ◌≤◌, ◌==◌, nat_lt, Some, None, Bool, true, cond, not, eqb, List, [], ◌∷◌, ◌++◌, length, get_or, replicate, fold, sym, refl, ap, ◌∙◌, ⊎_elim, arith}
+use lib.Bits.{bit_and, bit_or}
+use Rattle.std.specs.List.{prefix_len, position}
 use Rattle.ring.specs.Sums.{count_of}
 use Rattle.std.proofs.lemmas.List.{length-set, set_past, replicate_more}
 use Rattle.std.proofs.lemmas.List.Sums.{fold_push}
-use Rattle.std.proofs.lemmas.Bool.{cond_both, cases_Bool, cases_lt, false≢true, eqb-true, not_from_false, cond-true}
+use Rattle.std.proofs.lemmas.Bool.{cond_both, cases_Bool, cases_lt, false≢true, lt-ltb, eqb-true, not_from_false, cond-true}
 use Rattle.sheet.specs.Marks.{meets, free_at, marked, in_turn, used}
-use Rattle.ring.proofs.Summing.{sum_set, count_cons}
+use Rattle.ring.proofs.Summing.{sum_set, count_cons, one_le}
 
 pub leading_le_count : {X : Type 0} (p q : X → Bool) → ((x : X) → p x ≡ true → q x ≡ true) → (xs : List X) → prefix_len p xs ≤ count_of q xs
 leading_le_count p q f [] = omega arith
@@ -24,20 +24,21 @@ pub free_le_used : (marks : List ℕ) (w : ℕ) → free_at marks w ≤ used mar
 unfolding used
 free_le_used marks w = leading_le_count (meets w) (λ m. not (eqb m 0)) (meets_used w) marks
 
+-- where a mark is not used, one is found that is free for w
+pub found : (marks : List ℕ) (w : ℕ) → used marks < length marks → position (λ m. bit_and m w == 0) marks ≡ Some (free_at marks w)
+found marks w h =
+    cond-true (nat_lt (free_at marks w) (length marks)) (Some (free_at marks w)) None (lt-ltb (free_at marks w) (length marks) (omega (arith, free_le_used marks w)))
+
 pub length_marked : (marks : List ℕ) (w : ℕ) → length (marked marks w) ≡ length marks
 unfolding marked
 length_marked marks w = length-set marks (free_at marks w) (bit_or (get_or marks (free_at marks w) 0) w)
-
-at_most_one : (b : Bool) → cond b 1 0 ≤ 1
-at_most_one true = omega arith
-at_most_one false = omega arith
 
 pub used_marked : (marks : List ℕ) (w : ℕ) → used (marked marks w) ≤ used marks + 1
 unfolding used marked
 used_marked marks w =
     let y : ℕ = bit_or (get_or marks (free_at marks w) 0) w in
     ⊎_elim
-    (λ l. omega (arith, sum_set (λ m. cond (not (eqb m 0)) 1 0) marks (free_at marks w) y 0 l, at_most_one (not (eqb y 0))))
+    (λ l. omega (arith, sum_set (λ m. cond (not (eqb m 0)) 1 0) marks (free_at marks w) y 0 l, one_le (not (eqb y 0))))
     (λ u. omega (arith, ap (count_of (λ m. not (eqb m 0))) (set_past marks (free_at marks w) y u)))
     (cases_lt (free_at marks w) (length marks))
 

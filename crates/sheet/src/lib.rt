@@ -1,7 +1,7 @@
 //! The sheet of marks on which slots are given out: one mark a slot, with bit e - 1 set where a unit in that slot is over link e.
 #![tactic(auto)]
 
-ghost use Rattle.std.specs.Prelude.{◌≡◌, ◌+◌, ◌<◌, ◌≤◌, length, replicate, fold};
+ghost use Rattle.std.specs.Prelude.{◌≡◌, ◌+◌, ◌<◌, ◌≤◌, length, replicate, fold, ◌==◌, position, bit_and};
 ghost use Rattle.sheet.specs.Marks.{Blank, free_at, marked, in_turn, used};
 
 /// The marks of a sheet that is lent. They are blank again, in full length, when the guard ends, on every way out.
@@ -25,27 +25,27 @@ pub fn blank(marks: &mut [u16])
     marks.fill(0);
 }
 
-/// The place of the first mark in which no link of the mask is set, or the number of marks if there is none.
-fn lowest_free(marks: &[u16], mask: u16) -> usize
-    ensures { result ≡ free_at marks.now mask }
+/// The place of the first mark in which no link of the mask is set, if there is one.
+fn first_free(marks: &[u16], mask: u16) -> Option<usize>
+    ensures { result ≡ position (λ m. bit_and m mask == 0) marks.now }
 {
-    for (k, m) in marks.iter().enumerate() {
-        if *m & mask == 0 {
-            return k;
-        }
-    }
-    marks.len()
+    marks.iter().position(|m| *m & mask == 0)
 }
 
 /// Gives a unit with these links the lowest slot that is free for it, marks the links there, and returns the slot.
+#[tactic(auto, using(crate::proofs::Marks::found), unfolding(crate::specs::Marks::marked))]
+// Kept: how long the marks are is a clause, and no type, since they are a list that the caller lends.
 fn place(marks: &mut [u16], mask: u16) -> u16
     requires room { used marks.old < length marks.old }
     requires long { length marks.old ≤ 1024 }
     ensures slot { result ≡ 1 + free_at marks.old mask }
     ensures marks { marks.new ≡ marked marks.old mask }
 {
-    let k = lowest_free(marks, mask);
+    let Some(k) = first_free(marks, mask) else {
+        unreachable()
+    };
     marks[k] |= mask;
+    // Kept: `as`, of which the check proves that it loses no bit; `u16::try_from` would ask for an arm that never runs.
     (k + 1) as u16
 }
 

@@ -1,5 +1,5 @@
 -- The figures and the theorems of what was drawn.
-use Rattle.std.proofs.Common.{◌≡◌, ℕ, cond, leb, List, [], ◌∷◌, map, IfOk, Ok, Err, Result, sym, refl, ap, ◌∙◌, ap₂, MatchResult}
+use Rattle.std.proofs.Common.{◌≡◌, ℕ, cond, leb, List, [], ◌∷◌, map, sym, refl, ap, ◌∙◌, ap₂}
 use Rattle.std.specs.List.{range_with_len}
 use Rattle.ring.specs.Ring.{WithinLimits, load}
 use Rattle.ring.specs.Sides.{Choice, chosen_load, route_load, routes_by, per_link}
@@ -24,8 +24,3 @@ loads_drawn n σ ds routes rows loads limits is are h =
     h ∙ ap (λ rs. per_link n (route_load rs)) is
     ∙ per_link_same n (chosen_load σ n ds) (load ds (drawn n σ ds)) (λ e. sym (rows_load_links n σ ds limits e))
     ∙ ap (λ rs. per_link n (load ds rs)) (sym are)
-
--- what holds where a result is a value
-pub made_by : {T E : Type 0} (r : Result T E) (P R : T → Type 0) (Q : E → Type 0) → MatchResult r P Q → ((x : T) → P x → R x) → IfOk r R
-made_by (Ok x) P R Q h f = f x h
-made_by (Err e) P R Q h f = tt

@@ -1,5 +1,5 @@
 -- What a drawing answers.
-use Rattle.std.specs.Prelude.{◌≡◌, ℕ, ◌<◌, ◌≤◌, List, [], Result, MatchResult}
+use Rattle.std.specs.Prelude.{◌≡◌, ℕ, ◌<◌, ◌≤◌, List, Result, MatchResult}
 use Rattle.refusals.specs.declared.Refusal.{Refusal}
 use Rattle.refusals.specs.declared.Refusal.TheVariants.{TooFew}
 use Rattle.ring.specs.Ring.{load, slot_count}
@@ -8,7 +8,7 @@ use Rattle.ring.specs.declared.Demand.{Demand}
 use Rattle.ring.specs.declared.Row.{Row}
 use Rattle.ring.specs.declared.choosing.Best.{Best}
 use Rattle.drawn.specs.Slotting.{drawn, slots_shut}
-use Rattle.slotting.specs.declared.Slotted.{Slotted}
+use Rattle.ring.specs.declared.Figures.{Figures}
 use Rattle.slotting.specs.declared.BestLink.{BestLink}
 
 -- It was drawn: the sheet has 1,024 marks or more, the rows are what was to be drawn, and the figures are those of the rows.
@@ -26,23 +26,22 @@ pub record Refused (why : Refusal) (marks : ℕ) (rows before : List Row) : Type
   pub same : rows ≡ before
 
 -- What a call answers that was to draw the rows `what`, where the sheet has so many marks and the rows were `before`.
-abbrev pub Draws : ℕ → List Demand → List Row → ℕ → List Row → List Row → Result Slotted Refusal → Type 0
+abbrev pub Draws : ℕ → List Demand → List Row → ℕ → List Row → List Row → Result Figures Refusal → Type 0
 Draws n ds what marks before rows r = MatchResult r (λ s. Drew n ds marks rows what s.slots s.loads) (λ e. Refused e marks rows before)
 
 -- The same of a call that was to draw with a link shut, and to name the link.
 abbrev pub DrawsShut : ℕ → List Demand → ℕ → ℕ → List Row → List Row → Result BestLink Refusal → Type 0
 DrawsShut n ds link marks before rows r =
-    MatchResult r (λ b. (b.link ≡ link) × Drew n ds marks rows (drawn n (shut link) ds) b.slots b.loads) (λ e. Refused e marks rows before)
+    MatchResult r (λ b. (b.link ≡ link) × Drew n ds marks rows (drawn n (shut link) ds) b.figures.slots b.figures.loads) (λ e. Refused e marks rows before)
 
 -- ---- trials of links
--- It was tried: the sheet has 1,024 marks or more, the figure is the wanted one, and no rows are left.
-pub record Tried (marks figure wanted : ℕ) (rows : List Row) : Type 0 where
+-- They were tried: the sheet has 1,024 marks or more, and the link is the wanted one.
+pub record Tried (marks link wanted : ℕ) : Type 0 where
   pub long : 1024 ≤ marks
-  pub figure_is : figure ≡ wanted
-  pub none : rows ≡ []
+  pub link_is : link ≡ wanted
 
 abbrev pub Tries : ℕ → ℕ → List Row → List Row → Result ℕ Refusal → Type 0
-Tries wanted marks before rows r = MatchResult r (λ k. Tried marks k wanted rows) (λ e. Refused e marks rows before)
+Tries wanted marks before rows r = MatchResult r (λ k. Tried marks k wanted) (λ e. Refused e marks rows before)
 
 -- a link with the slot count of what is drawn with it shut
 abbrev pub trial : ℕ → List Demand → ℕ → Best ℕ ℕ

@@ -4,20 +4,25 @@
 mod drawing;
 mod trials;
 
+ghost use Rattle.std.specs.Prelude.{◌≡◌, true};
+ghost use Rattle.ring.specs.Ring.{within_limits};
+
 pub use drawing::{count_units, draw};
+pub use placing::rows::PlanRows;
+use ring::{Demand, Figures};
 pub use trials::best_link;
 
-/// What was drawn: the slot count of the rows, and the load of each link, link e's at place e - 1 and 0 past the ring's last link.
+/// The demands on a ring for which a plan can be drawn: their ends are on the ring, and no limit is passed.
 #[derive(Clone, Copy, Debug)]
-pub struct Slotted {
-    pub slots: u16,
-    pub loads: [u16; 16],
+pub struct Traffic<'a> {
+    pub nodes: u8,
+    pub demands: &'a [Demand],
+    ghost limits: { within_limits nodes demands.now ≡ true },
 }
 
 /// What was drawn with the best link shut: that link, and the figures of the rows.
 #[derive(Clone, Copy, Debug)]
 pub struct BestLink {
     pub link: u8,
-    pub slots: u16,
-    pub loads: [u16; 16],
+    pub figures: Figures,
 }

@@ -1,6 +1,7 @@
 //! Sample rings: the plans that slotting gives by the definitions, as one proved statement, and what the drawings answer, as tests.
 #![tactic(auto)]
 
+ghost use Rattle.std.specs.Prelude.{◌≡◌};
 ghost use Rattle.ring.specs.Ring.{WithinLimits};
 ghost use Rattle.slotting_samples.specs.Plans.{SamplePlans};
 
@@ -10,151 +11,51 @@ use ring::Demand;
 mod tests;
 
 /// The definitions give the known plans of the sample rings.
-pub fn sample_plans_stand() -> u8
+pub fn sample_plans_stand()
     ensures { SamplePlans }
+{}
+
+/// So many units between two nodes.
+fn between(number: u16, lower: u8, upper: u8, units: u8) -> Demand
+    ensures { result ≡ record { number = number; lower = lower; upper = upper; units = units } }
 {
-    0
+    Demand {
+        number,
+        lower,
+        upper,
+        units,
+    }
 }
 
-/// A full book on sixteen nodes: 22 demands with 1,024 units in all.
-const FULL: [Demand; 22] = [
-    Demand {
-        number: 1,
-        lower: 1,
-        upper: 2,
-        units: 48,
-    },
-    Demand {
-        number: 2,
-        lower: 6,
-        upper: 14,
-        units: 48,
-    },
-    Demand {
-        number: 3,
-        lower: 11,
-        upper: 16,
-        units: 48,
-    },
-    Demand {
-        number: 4,
-        lower: 1,
-        upper: 8,
-        units: 48,
-    },
-    Demand {
-        number: 5,
-        lower: 6,
-        upper: 15,
-        units: 48,
-    },
-    Demand {
-        number: 6,
-        lower: 11,
-        upper: 12,
-        units: 48,
-    },
-    Demand {
-        number: 7,
-        lower: 1,
-        upper: 14,
-        units: 48,
-    },
-    Demand {
-        number: 8,
-        lower: 6,
-        upper: 16,
-        units: 48,
-    },
-    Demand {
-        number: 9,
-        lower: 11,
-        upper: 13,
-        units: 48,
-    },
-    Demand {
-        number: 10,
-        lower: 1,
-        upper: 5,
-        units: 48,
-    },
-    Demand {
-        number: 11,
-        lower: 6,
-        upper: 7,
-        units: 48,
-    },
-    Demand {
-        number: 12,
-        lower: 11,
-        upper: 14,
-        units: 48,
-    },
-    Demand {
-        number: 13,
-        lower: 1,
-        upper: 11,
-        units: 48,
-    },
-    Demand {
-        number: 14,
-        lower: 6,
-        upper: 8,
-        units: 48,
-    },
-    Demand {
-        number: 15,
-        lower: 11,
-        upper: 15,
-        units: 48,
-    },
-    Demand {
-        number: 16,
-        lower: 1,
-        upper: 2,
-        units: 48,
-    },
-    Demand {
-        number: 17,
-        lower: 6,
-        upper: 9,
-        units: 48,
-    },
-    Demand {
-        number: 18,
-        lower: 11,
-        upper: 16,
-        units: 48,
-    },
-    Demand {
-        number: 19,
-        lower: 1,
-        upper: 8,
-        units: 48,
-    },
-    Demand {
-        number: 20,
-        lower: 6,
-        upper: 10,
-        units: 48,
-    },
-    Demand {
-        number: 21,
-        lower: 11,
-        upper: 12,
-        units: 48,
-    },
-    Demand {
-        number: 22,
-        lower: 1,
-        upper: 14,
-        units: 16,
-    },
+/// The demands of a full book: their numbers, their ends, the lower one first, and their units.
+const FULL: [(u16, u8, u8, u8); 22] = [
+    (1, 1, 2, 48),
+    (2, 6, 14, 48),
+    (3, 11, 16, 48),
+    (4, 1, 8, 48),
+    (5, 6, 15, 48),
+    (6, 11, 12, 48),
+    (7, 1, 14, 48),
+    (8, 6, 16, 48),
+    (9, 11, 13, 48),
+    (10, 1, 5, 48),
+    (11, 6, 7, 48),
+    (12, 11, 14, 48),
+    (13, 1, 11, 48),
+    (14, 6, 8, 48),
+    (15, 11, 15, 48),
+    (16, 1, 2, 48),
+    (17, 6, 9, 48),
+    (18, 11, 16, 48),
+    (19, 1, 8, 48),
+    (20, 6, 10, 48),
+    (21, 11, 12, 48),
+    (22, 1, 14, 16),
 ];
 
-/// A full book, within limits.
+/// A full book on sixteen nodes, within limits: 22 demands with 1,024 units in all.
 pub fn full_book() -> [Demand; 22]
     ensures { WithinLimits 16 result }
 {
-    FULL
+    FULL.map(|(number, lower, upper, units)| between(number, lower, upper, units))
 }

@@ -7,10 +7,11 @@ ghost use Rattle.book.specs.Runs.{Sound};
 ghost use Rattle.book.specs.Starts.{Starts};
 
 use crate::book::Book;
-use booklaw::{Drawing, StartFault};
+use booklaw::{Drawing, SlipCounts, StartFault};
 use checkrows::routes::line_of;
 use entries::check_entry;
 use ring::Refusal;
+use slotting::PlanRows;
 use std::alloc::Global;
 
 impl Book {
@@ -18,11 +19,11 @@ impl Book {
     fn begin(heap: Global, n: u8, number: u16) -> Result<Book, StartFault>
         ensures { Starts n number result }
     {
-        if n < 3 || n > 16 {
+        if !(3..=16).contains(&n) {
             return Err(StartFault::Refused(Refusal::RingSize));
         }
         let demands = Vec::with_capacity(heap, 128)?;
-        let rows = Vec::with_capacity(heap, 1024)?;
+        let rows = PlanRows::with_room(heap)?;
         Ok(Book {
             size: n,
             number,
@@ -30,9 +31,11 @@ impl Book {
             drawing: Drawing::Open,
             rows,
             out: [false; 17],
-            issued: 0,
-            loaded: 0,
-            returned: 0,
+            counts: SlipCounts {
+                issued: 0,
+                loaded: 0,
+                returned: 0,
+            },
         })
     }
 
@@ -51,10 +54,7 @@ impl Book {
     pub fn enter(&mut self, number: u16, a: u8, b: u8, units: u8) -> Result<(), Refusal>
         ensures { Does self.old (Enter number a b units) (answered result) self.new }
     {
-        match self.drawing {
-            Drawing::Open => {}
-            Drawing::ByRule | Drawing::BestLink(_) => return Err(Refusal::Planned),
-        }
+        self.must_be_open()?;
         let demand = check_entry(self.size, self.demands.as_slice(), number, a, b, units)?;
         self.demands.push_reserved(demand);
         Ok(())
@@ -64,9 +64,7 @@ impl Book {
     pub fn withdraw(&mut self, number: u16) -> Result<(), Refusal>
         ensures { Does self.old (Withdraw number) (answered result) self.new }
     {
-        if !self.drawing.is_open() {
-            return Err(Refusal::Planned);
-        }
+        self.must_be_open()?;
         let Some(at) = line_of(self.demands.as_slice(), number) else {
             return Err(Refusal::NumberUnknown);
         };

@@ -1,7 +1,7 @@
 //! Drawing a plan for the demands of a book, and writing it out.
 
-ghost use Rattle.std.specs.Prelude.{◌≡◌, ℕ, ◌≤◌, length, take, IfOk, OnOk};
-ghost use Rattle.ring.specs.Ring.{WithinLimits, slot_count, lower_bound_of};
+ghost use Rattle.std.specs.Prelude.{◌≡◌, ℕ, length, take, IfOk, OnOk};
+ghost use Rattle.ring.specs.Ring.{slot_count, lower_bound_of};
 ghost use Rattle.ring.specs.Cuts.{heaviest_cut};
 ghost use Rattle.drawn.specs.Claims.{WellDrawn, BestDrawn};
 ghost use Rattle.drawn.specs.Slotting.{best_link};
@@ -15,25 +15,25 @@ ghost use Rattle.book.specs.WriteOut.{writing_out, written_out};
 
 use crate::book::Book;
 use booklaw::{Card, Drawing};
-use bounds::cuts::{heaviest_cut, lower_bound};
-use planfile::write::write_plan;
-use ring::{Demand, Refusal};
+use bounds::cuts::RingDemands;
+use planfile::write::{PlanFile, write_plan};
+use ring::{Figures, Refusal};
 use rules::Rule;
 use sheet::Guard;
-use slotting::{best_link, draw};
+use slotting::{Traffic, best_link, draw};
 
-/// The card of a plan for the demands, with the slot count and the loads of its rows.
-fn card_for(n: u8, demands: &[Demand], slots: u16, loads: [u16; 16]) -> Card
-    requires { WithinLimits n demands.now }
-    ensures { result ≡ record { slots = slots; loads = loads; cut = heaviest_cut n demands.now; lower_bound = lower_bound_of n demands.now } }
+/// The card of a plan for the demands, with the figures of its rows.
+fn card_for(traffic: &Traffic, figures: Figures) -> Card
+    ensures { result ≡ record { figures = figures; cut = heaviest_cut traffic.now.nodes traffic.now.demands.now; lower_bound = lower_bound_of traffic.now.nodes traffic.now.demands.now } }
 {
-    let cut = heaviest_cut(n, demands);
-    let lower_bound = lower_bound(n, demands);
+    let demands = RingDemands {
+        nodes: traffic.nodes,
+        demands: traffic.demands,
+    };
     Card {
-        slots,
-        loads,
-        cut,
-        lower_bound,
+        figures,
+        cut: demands.heaviest_cut(),
+        lower_bound: demands.lower_bound(),
     }
 }
 
@@ -44,23 +44,15 @@ impl Book {
         ensures card { IfOk result (λ card. card ≡ card_of self.old.size (demands_in self.old) (rows_in self.new)) }
         ensures well { OnOk result (WellDrawn self.old.size (demands_in self.old) (rows_in self.new)) }
     {
-        if !self.drawing.is_open() {
-            return Err(Refusal::Planned);
-        }
-        let slotted = draw(
-            self.size,
-            self.demands.as_slice(),
-            rule,
-            marks,
-            &mut self.rows,
-        )?;
+        self.must_be_open()?;
+        let traffic = Traffic {
+            nodes: self.size,
+            demands: self.demands.as_slice(),
+        };
+        let figures = draw(&traffic, rule, marks, &mut self.rows)?;
+        let card = card_for(&traffic, figures);
         self.drawing = Drawing::ByRule;
-        Ok(card_for(
-            self.size,
-            self.demands.as_slice(),
-            slotted.slots,
-            slotted.loads,
-        ))
+        Ok(card)
     }
 
     /// Draws a plan with the best link shut on marks that are lent.
@@ -69,12 +61,15 @@ impl Book {
         ensures card { IfOk result (λ card. card ≡ card_of self.old.size (demands_in self.old) (rows_in self.new)) }
         ensures best { OnOk result (BestDrawn self.old.size (demands_in self.old) (best_link self.old.size (demands_in self.old)) (rows_in self.new)) }
     {
-        if !self.drawing.is_open() {
-            return Err(Refusal::Planned);
-        }
-        let best = best_link(self.size, self.demands.as_slice(), marks, &mut self.rows)?;
+        self.must_be_open()?;
+        let traffic = Traffic {
+            nodes: self.size,
+            demands: self.demands.as_slice(),
+        };
+        let best = best_link(&traffic, marks, &mut self.rows)?;
+        let card = card_for(&traffic, best.figures);
         self.drawing = Drawing::BestLink(best.link);
-        Ok(card_for(self.size, self.demands.as_slice(), best.slots, best.loads))
+        Ok(card)
     }
 
     /// Draws a plan by a rule, on a sheet of 1,024 marks or more, and answers its card. The sheet is blank at the return, refused or not, whatever it held.
@@ -111,15 +106,13 @@ impl Book {
         ensures back { IfOk result (λ n. ReadsBack self.now.number self.now.size (demands_in self.now) (rows_in self.now) (slot_count (rows_in self.now)) (take n bytes.new)) }
         ensures taken { IfOk result (λ n. TakesBack self.now.number self.now.size (demands_in self.now) (rows_in self.now) (take n bytes.new)) }
     {
-        match self.drawing {
-            Drawing::Open => Err(Refusal::Unplanned),
-            Drawing::ByRule | Drawing::BestLink(_) => write_plan(
-                self.number,
-                self.size,
-                self.demands.as_slice(),
-                self.rows.as_slice(),
-                bytes,
-            ),
-        }
+        self.must_be_planned()?;
+        let plan = PlanFile {
+            number: self.number,
+            nodes: self.size,
+            demands: self.demands.as_slice(),
+            rows: self.rows.as_slice(),
+        };
+        write_plan(&plan, bytes)
     }
 }

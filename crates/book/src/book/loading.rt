@@ -1,8 +1,8 @@
 //! Handing the plan of a book out node by node, and reopening the book.
 
-ghost use Rattle.std.specs.Prelude.{◌≡◌, ℕ, true, length, IfOk, IfErr, MatchResult};
-ghost use Rattle.handouts.specs.Fronts.{in_front};
-ghost use Rattle.booklaw.specs.Books.{outs, fits, node_rows};
+ghost use Rattle.std.specs.Prelude.{◌≡◌, ℕ, ◌<◌, false, length, IfOk, IfErr, MatchResult, slice_set};
+ghost use Rattle.planwrite.specs.Fronts.{fronted};
+ghost use Rattle.booklaw.specs.Books.{outs, node_rows};
 ghost use Rattle.booklaw.specs.Calls.{Issue, Read, HandBack, Reopen, as_loaded, as_returned, answered, answered_back};
 ghost use Rattle.booklaw.specs.declared.Stage.TheVariants.{Unread};
 ghost use Rattle.book.specs.Does.{Does, demands_in, rows_in, state};
@@ -12,22 +12,24 @@ use crate::book::Book;
 use crate::slips::{Slip, spend};
 use booklaw::{Drawing, Stage};
 use entries::is_node;
-use handouts::hand_out;
+use handouts::NodeRows;
 use ring::{Refusal, Row};
+
+/// Clears the mark of a slip's node, and lets the slip go.
+fn clear(out: &mut [bool; 17], slip: Slip)
+    requires { slip.node < length out.old }
+    ensures { out.new ≡ slice_set out.old slip.node false }
+{
+    out[usize::from(slip.node)] = false;
+    spend(slip);
+}
 
 impl Book {
     /// How many nodes are marked out: those whose slips were issued and not handed back.
     fn nodes_out(&self) -> u16
         ensures { result ≡ outs self.now.out }
     {
-        self.issued - self.loaded - self.returned
-    }
-
-    /// Whether a slip with this book number and node is one that is out.
-    fn knows(&self, book: u16, node: u8) -> bool
-        ensures { result ≡ fits (state self.now) book node }
-    {
-        book == self.number && self.is_out(node)
+        self.counts.issued - self.counts.loaded - self.counts.returned
     }
 
     /// Gives an unread slip for a node, and marks the node out.
@@ -35,21 +37,18 @@ impl Book {
         ensures does { Does self.old (Issue node) (answered result) self.new }
         ensures slip { IfOk result (λ s. s ≡ slip_for self.old.number node Unread) }
     {
-        match self.drawing {
-            Drawing::Open => return Err(Refusal::Unplanned),
-            Drawing::ByRule | Drawing::BestLink(_) => {}
-        }
+        self.must_be_planned()?;
         if !is_node(self.size, node) {
             return Err(Refusal::EndOutside { place: 0 });
         }
         if self.is_out(node) {
             return Err(Refusal::NodeOut);
         }
-        if self.issued == u16::MAX {
+        if self.counts.issued == u16::MAX {
             return Err(Refusal::SlipsSpent);
         }
         self.out[usize::from(node)] = true;
-        self.issued += 1;
+        self.counts.issued += 1;
         Ok(Slip {
             book: self.number,
             node,
@@ -63,17 +62,15 @@ impl Book {
         requires { IsUnread slip }
         ensures does { Does self.now (Read slip.book slip.node (length rows.old)) (answered_back result) self.now }
         ensures answer { MatchResult result (λ p. (p.0 ≡ length (node_rows (demands_in self.now) (rows_in self.now) slip.node)) × (p.1 ≡ now_read slip)) (λ e. e.1 ≡ slip) }
-        ensures rows { MatchResult result (λ _. rows.new ≡ in_front (node_rows (demands_in self.now) (rows_in self.now) slip.node) rows.old) (λ _. rows.new ≡ rows.old) }
+        ensures rows { MatchResult result (λ _. rows.new ≡ fronted (node_rows (demands_in self.now) (rows_in self.now) slip.node) rows.old) (λ _. rows.new ≡ rows.old) }
     {
-        if !self.knows(slip.book, slip.node) {
-            return Err((Refusal::SlipUnknown, slip));
-        }
-        match hand_out(
-            self.demands.as_slice(),
-            self.rows.as_slice(),
-            slip.node,
-            rows,
-        ) {
+        let slip = self.known(slip)?;
+        let wanted = NodeRows {
+            demands: self.demands.as_slice(),
+            rows: self.rows.as_slice(),
+            node: slip.node,
+        };
+        match wanted.hand_out(rows) {
             Ok(count) => {
                 let mut read = slip;
                 read.stage = Stage::Read;
@@ -83,18 +80,17 @@ impl Book {
         }
     }
 
+    // Kept: two calls, and no one with a flag, since a loader that reports an unread slip as loaded has to break what the first of them asks for.
     /// Takes a read slip back, whose rows were loaded, and clears the mark of its node. A refusal gives the slip back as it was.
     pub fn hand_back_loaded(&mut self, slip: Slip) -> Result<(), (Refusal, Slip)>
         requires { IsRead slip }
         ensures does { Does self.old (HandBack as_loaded slip.book slip.node) (answered_back result) self.new }
         ensures slip { IfErr result (λ e. e.1 ≡ slip) }
     {
-        if !self.knows(slip.book, slip.node) {
-            return Err((Refusal::SlipUnknown, slip));
-        }
-        self.out[usize::from(slip.node)] = false;
-        self.loaded += 1;
-        spend(slip);
+        let slip = self.known(slip)?;
+        prove!(self.counts.loaded < self.counts.issued);
+        clear(&mut self.out, slip);
+        self.counts.loaded += 1;
         Ok(())
     }
 
@@ -103,13 +99,10 @@ impl Book {
         ensures does { Does self.old (HandBack as_returned slip.book slip.node) (answered_back result) self.new }
         ensures slip { IfErr result (λ e. e.1 ≡ slip) }
     {
-        if !self.knows(slip.book, slip.node) {
-            return Err((Refusal::SlipUnknown, slip));
-        }
-        let node = usize::from(slip.node);
-        self.out[node] = false;
-        self.returned += 1;
-        spend(slip);
+        let slip = self.known(slip)?;
+        prove!(self.counts.returned < self.counts.issued);
+        clear(&mut self.out, slip);
+        self.counts.returned += 1;
         Ok(())
     }
 
@@ -117,10 +110,7 @@ impl Book {
     pub fn reopen(&mut self) -> Result<(), Refusal>
         ensures { Does self.old Reopen (answered result) self.new }
     {
-        match self.drawing {
-            Drawing::Open => return Err(Refusal::Unplanned),
-            Drawing::ByRule | Drawing::BestLink(_) => {}
-        }
+        self.must_be_planned()?;
         if self.nodes_out() > 0 {
             return Err(Refusal::NodesOut);
         }

@@ -48,18 +48,13 @@ impl Book {
     pub fn is_out(&self, node: u8) -> bool
         ensures { result ≡ marked self.now.out node }
     {
-        let v = usize::from(node);
-        v < 17 && self.out[v]
+        self.out.get(usize::from(node)).copied().unwrap_or(false)
     }
 
     /// How many slips were issued, handed back as loaded, and handed back as returned, since the book was started.
     pub fn slip_counts(&self) -> SlipCounts
-        ensures { result ≡ record { issued = self.now.issued; loaded = self.now.loaded; returned = self.now.returned } }
+        ensures { result ≡ self.now.counts }
     {
-        SlipCounts {
-            issued: self.issued,
-            loaded: self.loaded,
-            returned: self.returned,
-        }
+        self.counts
     }
 }

@@ -1,4 +1,4 @@
-use Rattle.std.proofs.Common.{◌≡◌, ◌-◌, get_or, take, arith}
+use Rattle.std.proofs.Common.{get_or, take, arith}
 use Rattle.std.proofs.lemmas.Result.{err_from_is_err_and}
 use Rattle.checklines.specs.Lines.{line_fault}
 use Rattle.ring.specs.declared.Demand.{Demand}
@@ -19,10 +19,8 @@ loop-i-preserved c =
     let i = c.loop-i.i in
     let h = c.in_ok-check_line.ensures in
     let m = sum_more (λ (d : Demand). d.units) lines i none c.loop-i-test.true in
-    let s : i - 0 ≡ i = omega arith in
-    let f = (line_fine c.args.n (take (i - 0) lines) (get_or lines i none) h).all_units in
-    let g = rw s at f in
-    (fault_goes (line_fault c.args.n) _ _ _ _ c.loop-i-test.true c.loop-i.invariant.0 h, omega (arith, m, c.loop-i.invariant.1), omega (arith, g, c.loop-i.invariant.1))
+    let f = (line_fine c.args.n (take i lines) (get_or lines i none) h).all_units in
+    (fault_goes (line_fault c.args.n) _ _ _ _ c.loop-i-test.true c.loop-i.invariant.0 h, omega (arith, m, c.loop-i.invariant.1), omega (arith, f, c.loop-i.invariant.1))
 
 pub returns : goal.returns
 returns c = fault_ends (line_fault c.args.n) _ _ _ c.loop-i-test.false c.loop-i.invariant.0

@@ -1,14 +1,12 @@
-use Rattle.std.proofs.Common.{sym, ap, ◌∙◌}
-use Rattle.std.proofs.lemmas.List.{drop_all}
-use Rattle.ring.specs.Ring.{named}
-use Rattle.checklines.proofs.Named.{named_here, named_next}
+use Rattle.std.proofs.Common.{◌∙◌, eqb, sym, rules, tests}
+use Rattle.std.proofs.lemmas.Iterator.{YieldsList-from_slice}
+use Rattle.std.proofs.lemmas.Iterator.Search.{any_from_yields_List}
+use Rattle.ring.specs.declared.Demand.{Demand}
+use Rattle.checklines.proofs.Named.{as_list_any}
 use Rattle.checklines.proofs.is_named.Goals as goal
 
-pub returns-then-line-number : goal.returns-then-line-number
-returns-then-line-number c = sym (c.loop-line.invariant ∙ named_here _ _ _ _ c.loop-line-test.true c.if-line-number.true)
-
-pub loop-line-preserved : goal.loop-line-preserved
-loop-line-preserved c = c.loop-line.invariant ∙ named_next _ _ _ _ c.loop-line-test.true c.if-line-number.false
-
 pub returns : goal.returns
-returns c = sym (c.loop-line.invariant ∙ ap (λ xs. named xs c.args.number) (drop_all _ _ c.loop-line-test.false))
+returns c =
+    let lines = c.args.lines.now in
+    let k = c.args.number in
+    any_from_yields_List (λ (d : Demand). eqb d.number k) _ _ _ c.any.ensures.ran (YieldsList-from_slice lines cc) (λ x b q k. search (rules, tests)) ∙ sym (as_list_any lines k)

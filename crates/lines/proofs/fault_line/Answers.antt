@@ -1,22 +1,15 @@
-use Rattle.std.proofs.Common.{◌≡◌, ℕ, ◌+◌, ◌-◌, ◌<◌, List, [], get_or, sym, ap, ◌∙◌, arith}
+use Rattle.std.proofs.Common.{[], get_or, eqb, ap, refl, ◌∙◌, rules, tests}
+use Rattle.std.specs.List.{slice_split}
+use Rattle.std.proofs.lemmas.Iterator.Consumers.{nth_from_yields_List}
+use Rattle.std.proofs.lemmas.Iterator.Splits.{YieldsList-from_slice_split}
 use Rattle.lines.specs.Lines.{lines_of, unfed}
-use Rattle.lines.proofs.First.{line_next, first_is}
+use Rattle.lines.proofs.First.{cut_is, part_is}
 use Rattle.lines.proofs.fault_line.Goals as goal
-
-pub loop-k-init : goal.loop-k-init
-loop-k-init c = let e : c.args.line - 1 ≡ c.args.line - 1 - 0 = omega arith in ap (λ n. get_or (lines_of c.args.text.now) n []) e
-
-pub loop-k-preserved : goal.loop-k-preserved
-loop-k-preserved c =
-    let left = c.args.line - 1 - c.loop-k._k in
-    let more : 0 < left = omega (arith, c.lines_before-k-end.ensures) in
-    let e : left - 1 ≡ c.args.line - 1 - (c.loop-k._k + 1) = omega arith in
-    c.loop-k.invariant ∙ line_next c.loop-k.rest.now left more
-    ∙ ap (λ (xs : List ℕ). get_or (lines_of xs) (left - 1) []) (sym c.after_line-rest.ensures)
-    ∙ ap (λ n. get_or (lines_of c.after_line-rest.result.now) n []) e
 
 pub returns : goal.returns
 returns c =
-    let rest = c.loop-k.rest.now in
-    let none : 0 ≡ c.args.line - 1 - c.loop-k._k = omega (arith, c.lines_before-k-end.ensures) in
-    c.first_line.ensures ∙ sym (first_is rest) ∙ ap (λ n. unfed (get_or (lines_of rest) n [])) none ∙ sym (ap unfed c.loop-k.invariant)
+    let s = c.args.text.now in
+    let n = c.saturating_sub.result in
+    let found = nth_from_yields_List _ _ n c.nth.ensures.ran (YieldsList-from_slice_split _ (λ b. eqb b 10) s c.split.ensures.rest c.split.ensures.done c.split.ensures.closure (λ x r q k. search (rules, tests))) in
+    ap (λ x. x.now) c.unwrap_or.ensures ∙ part_is (λ x. x.now) c.nth.result _ (slice_split (λ b. eqb b 10) s) n found refl
+    ∙ cut_is s n ∙ ap (λ n. unfed (get_or (lines_of s) n [])) c.saturating_sub.ensures

@@ -1,4 +1,4 @@
-use Rattle.std.proofs.Common.{◌≡◌, sym}
+use Rattle.std.proofs.Common.{◌≡◌, sym, refl}
 use Rattle.lines.specs.Lines.{digits}
 use Rattle.lines.proofs.First.{unformed_here}
 use Rattle.lines.proofs.next_line.Goals as goal
@@ -8,4 +8,4 @@ returns-then-not-is_formed c =
     let text = c.args.text.now in
     let n = c.count_digits-count.result in
     let e : n ≡ digits text = c.count_digits-count.ensures.value in
-    unformed_here c.args.line text c.fault_after.result n e (sym c.if-not-is_formed.ensures.value) c.fault_after.ensures
+    unformed_here c.args.line text _ n e (sym c.if-not-is_formed.ensures.value) refl

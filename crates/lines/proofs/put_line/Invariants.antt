@@ -4,5 +4,5 @@ use Rattle.lines.specs.Writes.{overwrite}
 use Rattle.lines.proofs.put_line.Given as goal
 
 -- the line is what was written and the digits of the bytes that are left
-abbrev pub invariant-loop-b : goal.invariant-loop-b
-invariant-loop-b l = (l.place ≡ l.at + 2 * l.b-index) × (overwrite l.bytes l.place (line_text (drop l.b-index l.frame)) ≡ overwrite l.initial.bytes l.at (line_text l.frame))
+abbrev pub invariant-loop-k : goal.invariant-loop-k
+invariant-loop-k l = overwrite l.bytes (l.at + 2 * l.k) (line_text (drop l.k l.frame)) ≡ overwrite l.initial.bytes l.at (line_text l.frame)

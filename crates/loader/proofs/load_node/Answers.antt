@@ -4,12 +4,6 @@ use Rattle.loader.proofs.Loading.{left_returned, as_issued, is_loaded, never_ref
 use Rattle.loader.proofs.load_node.Goals as goal
 
 -- the slip that was issued is known, so it is taken back
-pub unreachable-requires-in-Err-hand_back_returned : goal.unreachable-requires-in-Err-hand_back_returned
-unreachable-requires-in-Err-hand_back_returned c =
-    let issue = c.in_ok-slip.ensures in
-    let back_is = c.in-Err.ensures.answer in
-    never_refused _ _ c.args.node issue.does c.in-Err.unread (back_is ∙ issue.slip) _ _ c.in-Err-hand_back_returned.ensures.does
-
 pub returns-in-Ok-hand_back_loaded : goal.returns-in-Ok-hand_back_loaded
 returns-in-Ok-hand_back_loaded c =
     let issue = c.in_ok-slip.ensures in

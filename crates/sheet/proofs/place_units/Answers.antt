@@ -1,5 +1,5 @@
-use Rattle.std.proofs.Common.{◌≡◌, ◌+◌, [], ◌∷◌, ◌++◌, length, replicate, fold, sym, ap, ◌∙◌, arith}
-use Rattle.std.proofs.lemmas.List.{take_more_set, take_all, length-replicate}
+use Rattle.std.proofs.Common.{◌+◌, [], ◌∷◌, ◌++◌, replicate, ap, ◌∙◌, arith}
+use Rattle.std.proofs.lemmas.List.{take_more_set, length-replicate}
 use Rattle.sheet.specs.Marks.{marked, in_turn, free_at, used}
 use Rattle.sheet.proofs.Marks.{marked_more, in_turn_more, used_folded}
 use Rattle.sheet.proofs.place_units.Goals as goal
@@ -22,11 +22,3 @@ loop-slot-preserved c =
           ∙ ap (λ k. in_turn marks (replicate i mask) ++ k ∷ []) (c.place.ensures.slot ∙ ap (λ s. 1 + free_at s mask) c.loop-slot.invariant.0)
           ∙ in_turn_more marks mask i,
     )
-
-pub returns : goal.returns
-returns c =
-    let all : c.loop-slot.slot-index ≡ length c.args.slots.now = omega arith in
-    record {
-      marks = c.loop-slot.invariant.0 ∙ ap (λ k. fold marked c.args.marks.now (replicate k c.args.mask)) all;
-      slots = sym (take_all c.loop-slot.slot-index c.loop-slot.slots (omega arith)) ∙ c.loop-slot.invariant.1 ∙ ap (λ k. in_turn c.args.marks.now (replicate k c.args.mask)) all;
-    }

@@ -1,30 +1,23 @@
-use Rattle.std.proofs.Common.{◌≡◌, ◌+◌, ◌<◌, eqb, length, get_or, Some, sym, ap, ◌∙◌, arith}
-use Rattle.std.specs.List.{prefix_len}
-use Rattle.std.proofs.lemmas.List.Sums.{prefix_len-drop_yes, prefix_len-drop_no}
-use Rattle.std.proofs.lemmas.Bool.{cond-true, lt-ltb, not-true, not-false}
-use Rattle.refusals.specs.declared.Refusal.TheVariants.{CountWrong}
+use Rattle.std.proofs.Common.{◌≡◌, not, rules, tests, Some, None, position, sym, ◌∙◌}
+use Rattle.std.proofs.lemmas.Iterator.{YieldsList-from_slice}
+use Rattle.std.proofs.lemmas.Iterator.Search.{position_from_yields_List}
 use Rattle.ring.specs.declared.Demand.{Demand}
 use Rattle.checkrows.specs.Rows.{is_full}
+use Rattle.checkrows.proofs.Places.{counts_found}
 use Rattle.checkrows.proofs.counts.check_counts.Goals as goal
 
-abbrev none : Demand
-none = record { number = 0; lower = 0; upper = 0; units = 0 }
-
-pub returns-then-count_differs : goal.returns-then-count_differs
-returns-then-count_differs c =
+pub returns-in-Some : goal.returns-in-Some
+returns-in-Some c =
     let lines = c.args.lines.now in
     let rows = c.args.rows.now in
-    let i = c.loop-i.i in
-    let wrong : is_full rows (get_or lines i none) ≡ _ = ap (λ k. eqb k (get_or lines i none).units) (sym c.count_rows.ensures) ∙ not-true _ (sym c.count_differs.ensures ∙ c.if-count_differs.true) in
-    let z = prefix_len-drop_no (is_full rows) lines i none c.loop-i-test.true wrong in
-    let e : prefix_len (is_full rows) lines ≡ i = omega (arith, c.loop-i.invariant, z) in
-    let l : prefix_len (is_full rows) lines < length lines = omega (arith, e, c.loop-i-test.true) in
-    cond-true _ _ _ (lt-ltb _ _ l) ∙ ap (λ k. Some (CountWrong (k + 1))) e
+    let at : c.position.result ≡ position (λ (d : Demand). not (is_full rows d)) lines =
+    position_from_yields_List (λ (d : Demand). not (is_full rows d)) _ _ c.position.result c.position.ensures.ran (YieldsList-from_slice lines cc) (λ x b q h. search (rules, tests)) in
+    counts_found lines rows (Some c.in-Some.i) (sym c.in-Some.is ∙ at)
 
-pub loop-i-preserved : goal.loop-i-preserved
-loop-i-preserved c =
+pub returns-in-None : goal.returns-in-None
+returns-in-None c =
     let lines = c.args.lines.now in
     let rows = c.args.rows.now in
-    let i = c.loop-i.i in
-    let right : is_full rows (get_or lines i none) ≡ _ = ap (λ k. eqb k (get_or lines i none).units) (sym c.count_rows.ensures) ∙ not-false _ (sym c.count_differs.ensures ∙ c.if-count_differs.false) in
-    omega (arith, c.loop-i.invariant, prefix_len-drop_yes (is_full rows) lines i none c.loop-i-test.true right)
+    let at : c.position.result ≡ position (λ (d : Demand). not (is_full rows d)) lines =
+    position_from_yields_List (λ (d : Demand). not (is_full rows d)) _ _ c.position.result c.position.ensures.ran (YieldsList-from_slice lines cc) (λ x b q h. search (rules, tests)) in
+    counts_found lines rows None (sym c.in-None.is ∙ at)

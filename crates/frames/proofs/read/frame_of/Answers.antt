@@ -1,23 +1,15 @@
-use Rattle.std.proofs.Common.{◌≡◌, ◌-◌, ◌/◌, ◌<◌, ◌≤◌, [], ◌∷◌, length, take, ap, ◌∙◌, arith}
+use Rattle.std.proofs.Common.{◌/◌, ◌<◌, ◌≤◌, [], ◌∷◌, length, take, ap, ◌∙◌, arith}
 use Rattle.frames.specs.Frames.{frame_of}
 use Rattle.lines.specs.Hex.{bytes_of}
 use Rattle.lines.proofs.Writes.{length_bytes_of}
 use Rattle.frames.proofs.Steps.{long_form, front_is}
 use Rattle.frames.proofs.read.frame_of.Goals as goal
 
-pub returns-then-count-gt7 : goal.returns-then-count-gt7
-returns-then-count-gt7 c =
-    let ds = c.args.digits.now in
-    let many : 7 < length (bytes_of ds) = omega (arith, length_bytes_of ds) in
-    long_form c.args.line (bytes_of ds) many
-
 pub returns : goal.returns
 returns c =
     let ds = c.args.digits.now in
-    let z : length ds / 2 - 0 ≡ length ds / 2 = omega arith in
     let room : length ds / 2 ≤ 7 = omega arith in
     let zeros = 0 ∷ 0 ∷ 0 ∷ 0 ∷ 0 ∷ 0 ∷ 0 ∷ [] in
     c.parse.ensures
-    ∙ ap (λ n. frame_of c.args.line (take n c.decode.new.bytes)) z
     ∙ ap (λ bs. frame_of c.args.line (take (length ds / 2) bs)) c.decode.ensures
     ∙ ap (frame_of c.args.line) (front_is zeros ds room)

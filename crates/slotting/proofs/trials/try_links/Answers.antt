@@ -1,44 +1,41 @@
-use Rattle.std.proofs.Common.{◌≡◌, ℕ, ◌+◌, ◌<◌, replicate, refl, ap, ◌∙◌, ap₂, arith}
+use Rattle.std.proofs.Common.{◌≡◌, ℕ, ◌+◌, ◌-◌, replicate, sym, ap, ◌∙◌, ⊎_elim, arith}
+use Rattle.std.proofs.lemmas.Bool.{cases_lt}
+use Rattle.std.proofs.lemmas.Result.{err_from_is_err_and}
+use Rattle.ring.specs.Ring.{slot_count}
 use Rattle.ring.specs.declared.choosing.Best.{Best}
-use Rattle.ring.proofs.FirstBest.{first_by_least, filled_more, filled_all}
-use Rattle.drawn.specs.Slotting.{slots_shut}
+use Rattle.drawn.specs.Slotting.{best_link}
 use Rattle.slotting.specs.Answers.{trial}
+use Rattle.ring.proofs.Limits.{to_limits}
+use Rattle.slotting.proofs.Tried.{tried, tried_next, best_tried}
+use Rattle.slotting.proofs.trials.try_links.Goals.{else-loop-link-test, then-loop-link-test+in_ok-trial+else-link-link-end}
 use Rattle.slotting.proofs.trials.try_links.Goals as goal
 
-pub try_link-requires : goal.try_link-requires
-try_link-requires c =
-    record {
-      limits = c.requires.limits;
-      link = (omega arith, omega (arith, c.requires.limits.most, c.requires.trials, c.loop-i.auto.trials));
-      empty = c.loop-i.invariant.1;
-      room = omega (arith, c.loop-i.invariant.2, c.requires.room);
-    }
-
-pub loop-i-preserved : goal.loop-i-preserved
-loop-i-preserved c =
-    let tried = c.in_ok-slots.ensures in
-    let n = c.args.n in
-    let ds = c.args.demands.now in
-    let i = c.loop-i.i in
-    let turn : i + 1 ≡ 1 + i = omega arith in
-    let made : ℕ → ℕ → Best ℕ ℕ = λ e m. record { candidate = e; measure = m } in (
-      filled_more (trial n ds) 1 c.loop-i.trials i _ (omega arith) (ap₂ made turn (tried.answer.figure_is ∙ ap (slots_shut n ds) turn)) c.loop-i.invariant.0,
-      tried.answer.none,
-      tried.room ∙ c.loop-i.invariant.2,
-      λ _. (omega (arith, tried.answer.long, c.loop-i.auto.sheet), tried.blank ∙ ap (λ (k : ℕ). replicate {A = ℕ} k 0) c.loop-i.auto.sheet),
+pub loop-link-preserved : goal.loop-link-preserved
+loop-link-preserved c =
+    let n = c.args.traffic.now.nodes in
+    let ds = c.args.traffic.now.demands.now in
+    let drew = c.in_ok-trial.ensures.answer in
+    let back : c.loop-link.link ≡ c.loop-link.link + 1 - 1 = omega arith in (
+      tried_next n ds c.loop-link.link _ c.loop-link.best _ (omega (arith, c.loop-link.auto.link)) c.loop-link.invariant.0 (drew.slots_are ∙ ap slot_count drew.rows_are) c.keep_first_best-best.ensures ∙ ap (tried n ds) back,
+      (λ e. absurd (omega (arith, c.loop-link.auto.link))),
+      (λ l. (omega (arith, drew.long, c.loop-link.auto.sheet), c.in_ok-trial.ensures.blank ∙ ap (λ (k : ℕ). replicate {A = ℕ} k 0) c.loop-link.auto.sheet)),
     )
 
 pub returns : goal.returns
 returns c =
-    let n = c.args.n in
-    let ds = c.args.demands.now in
-    let some : 0 < c.loop-i.i = omega (arith, c.requires.limits.least, c.requires.trials) in
-    let end = c.loop-i.invariant.3 some in
-    let best = first_by_least (trial n ds) (slots_shut n ds) (λ e. refl) n (omega (arith, c.requires.limits.least)) c.loop-i.trials _
-    (filled_all (trial n ds) 1 c.loop-i.trials c.loop-i.i n (c.loop-i.auto.trials ∙ c.requires.trials) (omega arith) (omega arith) c.loop-i.invariant.0)
-    c.in-Some.ensures in
-    record {
-      answer = record { long = end.0; figure_is = ap (λ (b : Best ℕ ℕ). b.candidate) best; none = c.loop-i.invariant.1 };
-      room = c.loop-i.invariant.2;
-      blank = end.1;
-    }
+    let n = c.args.traffic.now.nodes in
+    let ds = c.args.traffic.now.demands.now in
+    let limits = to_limits n ds c.args.traffic.now.limits in
+    elim c.loop-link-test.branch [
+      | else-loop-link-test w ↦ absurd (omega (arith, limits.least, w.loop-link-test.false, c.loop-link.auto.link-end))
+      | then-loop-link-test+in_ok-trial+else-link-link-end w ↦
+          let last : c.loop-link.link ≡ n = omega arith in
+          let drew = w.in_ok-trial.ensures.answer in
+          let next = tried_next n ds c.loop-link.link _ c.loop-link.best w.keep_first_best-best.result (omega (arith, c.loop-link.auto.link)) c.loop-link.invariant.0 (drew.slots_are ∙ ap slot_count drew.rows_are) w.keep_first_best-best.ensures in
+          let some = sym c.in-Some.is ∙ w.best-is ∙ next ∙ ap (tried n ds) last ∙ best_tried n ds (omega (arith, limits.least)) in
+          let best : c.in-Some.best ≡ trial n ds (best_link n ds) = cc in
+          record {
+            answer = record { long = omega (arith, drew.long, c.loop-link.auto.sheet); link_is = ap (λ (b : Best ℕ ℕ). b.candidate) best };
+            blank = w.sheet-is ∙ w.in_ok-trial.ensures.blank ∙ ap (λ (k : ℕ). replicate {A = ℕ} k 0) c.loop-link.auto.sheet;
+          }
+    ]

@@ -15,7 +15,6 @@ invariant_of-self c =
     let now-are = e.items ∙ ap (λ x. demands_in b ++ (x ∷ [])) d.demand in
     record {
       room = omega (arith, e.capacity, b.room);
-      space = b.space;
       limits = subst (λ ds. within_limits b.size ds ≡ true) (sym now-are) (enter_within b.size (demands_in b) _ _ _ _ b.limits may);
       held = b.held;
       places = b.places;

@@ -15,4 +15,4 @@ invariant_of-self c =
     let inside : v < length b.out = omega (arith, leb-true v b.size on.1, (to_limits b.size (demands_in b) b.limits).most, b.places) in
     let more = outs_on b.out v inside (sym c.if-is_out.ensures) in
     let more-at : outs (set b.out c.from.result true) ≡ outs b.out + 1 = rw c.from.ensures more in
-    record { room = b.room; space = b.space; limits = b.limits; held = b.held; places = length-set _ _ _ ∙ b.places; accounted = omega (arith, more-at, b.accounted) }
+    record { room = b.room; limits = b.limits; held = b.held; places = length-set _ _ _ ∙ b.places; accounted = omega (arith, more-at, b.accounted) }

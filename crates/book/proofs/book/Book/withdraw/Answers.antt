@@ -18,7 +18,6 @@ invariant_of-self c =
     let now-are = e.items ∙ removed_line b.size c.args.number c.in-Some.at (demands_in b) b.limits found in
     record {
       room = omega (arith, e.capacity, b.room);
-      space = b.space;
       limits = subst (λ ds. within_limits b.size ds ≡ true) (sym now-are) (without_within b.size c.args.number (demands_in b) b.limits);
       held = b.held;
       places = b.places;
@@ -30,7 +29,7 @@ returns c =
     let b = c.args.self.now in
     let found = subst (λ ds. LineOf ds c.args.number c.in-Some.at) c.as_slice.ensures.value c.in-Some.ensures in
     let now-are = c.remove.ensures.items ∙ removed_line b.size c.args.number c.in-Some.at (demands_in b) b.limits found in
-    let open_is = sym c.is_open.ensures ∙ c.if-not-is_open.false in
+    let open_is = c.in_ok-must_be_open.ensures in
     does b _ (Withdraw c.args.number)
     (passes _ Planned _ (not_from_true _ open_is) (passes _ NumberUnknown accepted (not_from_true _ found.known) refl))
     (ap (with_demands (state b)) now-are)

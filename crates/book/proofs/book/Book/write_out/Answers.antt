@@ -1,23 +1,25 @@
-use Rattle.std.proofs.Common.{take, IfOk, subst}
+use Rattle.std.proofs.Common.{take, IfOk}
+use Rattle.std.proofs.lemmas.Bool.{not_from_false}
 use Rattle.ring.specs.Ring.{slot_count}
 use Rattle.planwrite.specs.Backs.{ReadsBack}
 use Rattle.planfile.specs.Backs.{TakesBack}
-use Rattle.book.specs.Does.{state, demands_in}
-use Rattle.book.proofs.Doing.{planned_by, writes_out, is_written}
+use Rattle.book.specs.Does.{state}
+use Rattle.book.proofs.Doing.{same_plan, writes_out, is_written}
 use Rattle.book.proofs.book.Book.write_out.Goals as goal
 
-pub returns-in-ByRule : goal.returns-in-ByRule
-returns-in-ByRule c =
-    let b = c.args.self.now in
+pub returns : goal.returns
+returns c =
+    let s = state c.args.self.now in
+    let old = c.args.bytes.now in
+    let new = c.write_plan.new.bytes in
+    let r = c.write_plan.result in
     let e = c.write_plan.ensures in
-    let is = planned_by b.drawing c.in-ByRule.is in
+    let is = not_from_false _ c.in_ok-must_be_planned.ensures in
     let p = c.as_slice.ensures.value in
-    let q = c.as_slice-in-ByRule.ensures.value in
+    let q = c.as_slice-2.ensures in
     record {
-      answer = writes_out (state b) c.args.bytes.now _ _ is p q _ e.answer;
-      written = is_written (state b) c.args.bytes.now _ _ is p q _ e.written;
-      back = subst (λ rows. IfOk c.write_plan.result (λ n. ReadsBack b.number b.size (demands_in b) rows (slot_count rows) (take n c.write_plan.new.bytes))) q
-          (subst (λ ds. IfOk c.write_plan.result (λ n. ReadsBack b.number b.size ds c.as_slice-in-ByRule.result.now (slot_count c.as_slice-in-ByRule.result.now) (take n c.write_plan.new.bytes))) p e.back);
-      taken = subst (λ rows. IfOk c.write_plan.result (λ n. TakesBack b.number b.size (demands_in b) rows (take n c.write_plan.new.bytes))) q
-          (subst (λ ds. IfOk c.write_plan.result (λ n. TakesBack b.number b.size ds c.as_slice-in-ByRule.result.now (take n c.write_plan.new.bytes))) p e.taken);
+      answer = writes_out s old _ _ is p q r e.answer;
+      written = is_written s old _ _ is p q new e.written;
+      back = same_plan s old _ _ is p q (λ ds rows. IfOk r (λ n. ReadsBack s.number s.size ds rows (slot_count rows) (take n new))) e.back;
+      taken = same_plan s old _ _ is p q (λ ds rows. IfOk r (λ n. TakesBack s.number s.size ds rows (take n new))) e.taken;
     }

@@ -1,9 +1,0 @@
-use Rattle.std.proofs.Common.{◌≡◌, ℕ, ◌<◌, ◌≤◌, false, get_or, take}
-use Rattle.ring.specs.Ring.{in_use, slot_count}
-use Rattle.ring.proofs.slots.count_new.Given as goal
-
--- what was seen are the slots of the rows so far, and the count is theirs
-abbrev pub invariant-loop-row : goal.invariant-loop-row
-invariant-loop-row l = ((k : ℕ) → k < 65536 → get_or l.seen k false ≡ in_use k (take l.row-index l.rows))
-    × (l.count ≡ slot_count (take l.row-index l.rows))
-    × (l.count ≤ l.row-index)

@@ -1,7 +1,0 @@
-use Rattle.std.proofs.Common.{refl}
-use Rattle.ring.proofs.Limits.{to_limits}
-use Rattle.ringfigures.proofs.neighbours.Goals as goal
-
--- the test of the limits passes
-pub returns : goal.returns
-returns c = to_limits 6 _ refl
