@@ -10,7 +10,7 @@ abbrev pub demands_in : Book → List Demand
 demands_in b = vec_items b.demands
 
 abbrev pub rows_in : Book → List Row
-rows_in b = b.rows
+rows_in b = b.rows.items
 
 -- what a book holds
 abbrev pub state : Book → State

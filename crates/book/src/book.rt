@@ -31,7 +31,7 @@ pub struct Book {
     counts: SlipCounts,
     ghost room: { 128 ≤ vec_capacity demands },
     ghost limits: { within_limits size demands.items ≡ true },
-    ghost held: { length rows ≤ most_rows drawing },
+    ghost held: { length rows.items ≤ most_rows drawing },
     ghost places: { length out ≡ 17 },
     ghost accounted: { counts.issued ≡ counts.loaded + counts.returned + outs out },
 }

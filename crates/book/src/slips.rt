@@ -9,7 +9,8 @@ use booklaw::Stage;
 pub struct Slip {
     pub(crate) book: u16,
     pub(crate) node: u8,
-    // Kept: the stage is a field and no type of its own, since the prover has to refuse a loader that reports an unread slip as loaded.
+    // Kept: the stage is a field and no type of its own, since the prover has to refuse a loader that reports an unread slip as loaded (an edit of the crate `loader`);
+    // with a type for each stage, its types would be refused before any proof.
     pub(crate) stage: Stage,
 }
 

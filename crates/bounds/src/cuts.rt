@@ -25,6 +25,7 @@ pub fn cut_total(demands: &[Demand], first: u8, second: u8) -> u16
     requires { units demands.now ≤ 1024 }
     ensures { result ≡ cut demands.now first second }
 {
+    // Kept: no `filter`, for the reason that `load_of` has.
     demands
         .iter()
         .map(|d| if crosses(d, first, second) {

@@ -14,6 +14,7 @@ pub fn load_of(routes: &[Route], link: u8) -> u16
     requires { route_units routes.now ≤ 1024 }
     ensures { result ≡ route_load routes.now link }
 {
+    // Kept: tried as `filter(..).map(..).sum()`; neither that the sum fits nor its value was proved then.
     routes
         .iter()
         .map(|r| if r.holds_link(link) {

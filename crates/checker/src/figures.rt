@@ -4,7 +4,7 @@ ghost use Rattle.std.specs.Prelude.{◌≡◌, ◌≤◌, length};
 ghost use Rattle.ring.specs.Ring.{load};
 ghost use Rattle.checker.specs.Verdicts.{figures};
 
-use checkrows::routes::row_holds;
+use checkrows::routes::{DemandLines, row_holds};
 use ring::links::figure_per_link;
 use ring::slots::slot_count;
 use ring::{Demand, Figures, Row};
@@ -15,15 +15,17 @@ fn load_of(lines: &[Demand], rows: &[Row], link: u8) -> u16
     ensures { result ≡ load lines.now rows.now link }
 {
     let over_link = rows.iter().filter(|row| row_holds(lines, **row, link));
+    // Kept: `as`, of which the check proves that it loses no bit, here and below; `u16::try_from` would ask for an arm that never runs.
     over_link.count() as u16
 }
 
 /// The slot count and the loads of a plan's rows.
-pub fn figures_of(n: u8, lines: &[Demand], rows: &[Row]) -> Figures
-    requires ring { n ≤ 16 }
-    requires few { length rows.now ≤ 1024 }
-    ensures { result ≡ figures n lines.now rows.now }
+pub fn figures_of(lines: &DemandLines, rows: &[Row]) -> Figures
+    requires { length rows.now ≤ 1024 }
+    ensures { result ≡ figures lines.now.nodes lines.now.lines.now rows.now }
 {
+    let n = lines.nodes;
+    let lines = lines.lines;
     Figures {
         slots: slot_count(rows) as u16,
         loads: figure_per_link(n, |e| load_of(lines, rows, e)),

@@ -13,6 +13,7 @@ ghost use Rattle.checker.specs.Claims.{PassesPlans, PassesExactly, HasFigures, N
 
 use checklines::check_lines;
 use checkrows::counts::check_counts;
+use checkrows::routes::DemandLines;
 use checkrows::rows::check_rows;
 use figures::figures_of;
 use ring::{Demand, Figures, Refusal, Row};
@@ -31,7 +32,7 @@ fn check_given(n: u8, lines: &[Demand], marks: usize) -> Result<(), Refusal>
     check_lines(n, lines)
 }
 
-// Kept: size, lines, rows and sheet are four parameters, as the call from outside has them; nothing is known of them before they are checked.
+// Kept: size, lines, rows and sheet are four parameters, here and in `check_rows`, as the call from outside has them; nothing is known of them before they are checked.
 /// The whole check on bare marks, which it leaves as they come.
 fn check_on(n: u8, lines: &[Demand], rows: &[Row], marks: &mut [u16]) -> Result<Figures, Refusal>
     ensures { Answered n lines.now rows.now (length marks.old) result }
@@ -40,7 +41,8 @@ fn check_on(n: u8, lines: &[Demand], rows: &[Row], marks: &mut [u16]) -> Result<
     blank(marks);
     check_rows(n, lines, rows, marks)?;
     check_counts(lines, rows)?;
-    Ok(figures_of(n, lines, rows))
+    let lines = DemandLines { nodes: n, lines };
+    Ok(figures_of(&lines, rows))
 }
 
 /// Checks a plan from elsewhere. It passes, with its slot count and loads, or the first cause against it is given; docs/CHECKER.md has the order.

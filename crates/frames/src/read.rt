@@ -74,6 +74,7 @@ fn put_next<T: Copy>(places: &mut [T], count: usize, x: T, line: usize) -> Resul
     Ok(count + 1)
 }
 
+// Kept: the places for demands and for rows are two parameters, as the call from outside lends them; they are filled apart from one another.
 /// Takes the frame of a line: it has to be one that may come now, and a demand or a row goes to the caller's next place.
 fn take_frame(
     p: Progress,

@@ -46,7 +46,7 @@ impl NodeRows<'_> {
         ensures { places.new ≡ fronted (node_rows self.now.demands.now self.now.rows.now self.now.node) places.old }
     {
         let wanted = self.rows.iter().filter(|row| self.has(**row));
-        // Kept: over `places.iter_mut().zip(wanted)`, a proof knows nothing of what the loop wrote, since no name there stands for the places.
+        // Kept: written by place, since over `iter_mut()` alone an invariant can name the places, and over a `zip` of it none can; `rules::choose_routes` tried that form.
         for (at, row) in wanted.enumerate() {
             places[at] = *row;
         }

@@ -71,7 +71,7 @@ impl fmt::Display for Entries<'_> {
     ghost output = { λ entries. Some (entry_lines entries.0.now) };
 
     fn fmt<W: fmt::Write>(&self, f: &mut fmt::Formatter<W>) -> fmt::Result {
-        // Kept: three loops of this form stand here, for entries, numbers and bytes; one over items that print themselves would need lists of such items, made of the numbers and bytes.
+        // Kept: three loops of this form stand here, for entries, numbers and bytes; one function for all would take what is printed of an item as a parameter of its contract, for three loops of two lines.
         for entry in self.0 {
             write!(f, "{entry}")?;
         }

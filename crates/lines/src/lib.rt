@@ -29,7 +29,7 @@ pub fn digit_char(value: u8) -> u8
 }
 
 /// The value of a digit's character, 0 of any other.
-// Kept: an Option would be no plainer, since `decode` is for digits alone, and its only caller here would write `unwrap_or(0)` twice.
+// Kept: 0 for what is no digit is part of the definition `value_of`, by which `decode` is stated; an Option would be unwrapped to 0 at both uses in `byte_of`.
 pub fn digit_value(character: u8) -> u8
     ensures value { result ≡ value_of character }
     ensures small { result < 16 }
@@ -114,7 +114,7 @@ pub fn decode(digits: &[u8], bytes: &mut [u8])
     ensures { bytes.new ≡ overwrite bytes.old 0 (bytes_of digits.now) }
 {
     let (pairs, _) = digits.as_chunks::<2>();
-    // Kept: over `bytes.iter_mut().zip(pairs)`, a proof knows nothing of what the loop wrote, since no name there stands for the bytes.
+    // Kept: written by place, since over `iter_mut()` alone an invariant can name the bytes, and over a `zip` of it none can; `rules::choose_routes` tried that form.
     for (k, [high, low]) in pairs.iter().enumerate() {
         bytes[k] = byte_of(*high, *low);
     }
@@ -128,7 +128,7 @@ pub fn put_line(bytes: &mut [u8], at: usize, frame: &[u8]) -> usize
     ensures written { bytes.new ≡ overwrite bytes.old at (line_text frame.now) }
     ensures next { result ≡ at + (2 * length frame.now + 1) }
 {
-    // Kept: the digits are written by place into the caller's bytes, as in `decode`; `write!` would ask for text that can grow.
+    // Kept: written by place, for the reason that `decode` has, and by hand, since `{:02x}` writes text, and these are bytes that the caller lends.
     for (k, b) in frame.iter().enumerate() {
         bytes[at + 2 * k] = high_digit(*b);
         bytes[at + 2 * k + 1] = low_digit(*b);

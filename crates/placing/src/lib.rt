@@ -14,7 +14,8 @@ use ring::{Route, Side};
 use sheet::{blank, place_units};
 
 /// Whose turn it is to get slots: the routes over the cut link, or the others that start at a node.
-// Kept: the definitions count on a list of the turns, in which each route comes once; a closure would need such a value beside it.
+// Kept: the definitions go through a list of the turns, in which each route comes once; a closure could not stand in that list, so the turn would be named beside it;
+// nor an `Option<u8>`, whose `None` would have to mean the routes over the cut link.
 #[derive(Clone, Copy, Debug)]
 pub enum Turn {
     Over,
@@ -67,6 +68,7 @@ impl OpenRing {
     }
 
     // Kept: the marks and the slots, with their lengths, are parameters of their own, since each call lends them on to the next; a struct of them would be taken apart for each.
+    // Kept: a call of itself, and no loop, since each call lends the rest of both lists on; it goes as deep as there are routes, which a drawing has at most 128 of.
     /// Places the units of the routes whose turn it is, in their order. `slots` has a place for each unit of each route.
     fn place_turn(self, routes: &[Route], turn: Turn, marks: &mut [u16], slots: &mut [u16])
         requires long { length marks.old ≤ 1024 }

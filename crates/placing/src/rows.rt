@@ -19,12 +19,12 @@ pub struct PlanRows {
 }
 
 impl Model for PlanRows {
-    ghost use Rattle.std.specs.Prelude.{◌≤◌, List, vec_capacity};
-    ghost use Rattle.ring.specs.declared.Row.{Row};
+    ghost use Rattle.std.specs.Prelude.{◌≤◌, vec_capacity};
+    ghost use Rattle.placing.specs.Room.{RowRoom};
 
-    ghost Value = { List Row };
+    ghost Value = { RowRoom };
 
-    ghost view = { λ p. p.rows.items };
+    ghost view = { λ p. record { items = p.rows.items; capacity = vec_capacity p.rows } };
 
     ghost invariant = { λ p. 1024 ≤ vec_capacity p.rows };
 }
@@ -32,22 +32,41 @@ impl Model for PlanRows {
 impl PlanRows {
     /// No rows, with room for as many as a plan may have.
     pub fn with_room(heap: Global) -> Result<PlanRows, AllocError>
-        ensures { IfOk result (λ rows. rows ≡ []) }
+        ensures { IfOk result (λ rows. rows.items ≡ []) }
     {
         let rows = Vec::with_capacity(heap, MOST_ROWS)?;
         Ok(PlanRows { rows })
     }
 
+    /// These rows, which have room for as many as a plan may have.
+    pub fn from_vec(rows: Vec<Row>) -> PlanRows
+        requires { 1024 ≤ vec_capacity rows }
+        ensures items { result.items ≡ rows.items }
+        ensures capacity { result.capacity ≡ vec_capacity rows }
+    {
+        PlanRows { rows }
+    }
+
+    /// The list of the rows, with its room.
+    pub fn into_vec(self) -> Vec<Row>
+        ensures items { result.items ≡ self.items }
+        ensures capacity { vec_capacity result ≡ self.capacity }
+    {
+        let PlanRows { rows } = self;
+        rows
+    }
+
     /// The rows, in their order.
     pub fn as_slice(&self) -> &[Row]
-        ensures { result.now ≡ self.now }
+        ensures { result.now ≡ self.now.items }
     {
         self.rows.as_slice()
     }
 
     /// Takes all rows out.
     pub fn clear(&mut self)
-        ensures { self.new ≡ [] }
+        ensures items { self.new.items ≡ [] }
+        ensures capacity { self.new.capacity ≡ self.old.capacity }
     {
         self.rows.clear();
     }
@@ -56,7 +75,8 @@ impl PlanRows {
     pub fn replace(&mut self, routes: &[Route], slots: &[u16])
         requires places { route_units routes.now ≡ length slots.now }
         requires room { length slots.now ≤ 1024 }
-        ensures { self.new ≡ rows_from routes.now slots.now }
+        ensures items { self.new.items ≡ rows_from routes.now slots.now }
+        ensures capacity { self.new.capacity ≡ self.old.capacity }
     {
         self.clear();
         write_rows(routes, slots, &mut self.rows);
@@ -86,6 +106,7 @@ pub fn write_rows(routes: &[Route], slots: &[u16], rows: &mut Vec<Row>)
     ensures items { rows.new.items ≡ rows.old.items ++ rows_from routes.now slots.now }
     ensures capacity { vec_capacity rows.new ≡ vec_capacity rows.old }
 {
+    // Kept: a `fold` would carry the same rest, and write the rows from inside its closure.
     let mut rest = slots;
     for route in routes {
         let (part, after) = rest.split_at(usize::from(route.demand.units));

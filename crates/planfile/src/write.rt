@@ -19,6 +19,7 @@ pub fn write_plan(plan: &PlanFile, bytes: &mut [u8]) -> Result<usize, Refusal>
     ensures back { IfOk result (λ n. ReadsBack plan.now.number plan.now.nodes plan.now.demands.now plan.now.rows.now (slot_count plan.now.rows.now) (take n bytes.new)) }
     ensures taken { IfOk result (λ n. TakesBack plan.now.number plan.now.nodes plan.now.demands.now plan.now.rows.now (take n bytes.new)) }
 {
+    // Kept: `as`, of which the check proves that it loses no bit; `u16::try_from` would ask for an arm that never runs.
     let slots = slot_count(plan.rows) as u16;
     plan.write(slots, bytes)
 }

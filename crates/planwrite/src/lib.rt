@@ -27,6 +27,7 @@ pub struct PlanFile<'a> {
 }
 
 /// Writes the line of a frame from a place on, and answers the place after it.
+// Kept: into the caller's bytes, and no `Display`, for the reason that `lines::put_line` has.
 fn put_frame(bytes: &mut [u8], at: usize, frame: Frame) -> usize
     requires { at + length (frame_text frame) ≤ length bytes.old }
     ensures written { bytes.new ≡ overwrite bytes.old at (frame_text frame) }
@@ -81,6 +82,7 @@ impl PlanFile<'_> {
             nodes: self.nodes,
         };
         let totals = Totals {
+            // Kept: `as`, of which the check proves that it loses no bit, here and below; `u16::try_from` would ask for an arm that never runs.
             demands: self.demands.len() as u16,
             units: self.rows.len() as u16,
             slots,

@@ -35,13 +35,14 @@ impl Route {
 
     /// The links of the ring of n nodes that the route holds: bit e - 1 for link e. The masks of two routes have a bit in common exactly where
     /// the routes share a link.
-    // Kept: how many nodes a ring has is a number under a clause here, and no type, since a route is asked for its mask on rings of any size up to 16.
+    // Kept: that the ring has at most 16 nodes is a clause, since each caller has its nodes from a type of its own, and one more would be made and taken apart in one line.
     pub fn link_mask(&self, n: u8) -> u16
         requires { n ≤ 16 }
         ensures value { result ≡ link_mask n (code_of self.now.side) self.now.demand.lower self.now.demand.upper }
         ensures bits { BitForEachLink n (code_of self.now.side) self.now.demand.lower self.now.demand.upper result }
         ensures meets { MeetsWhereRoutesShare n (code_of self.now.side) self.now.demand.lower self.now.demand.upper result }
     {
+        // Kept: the highest link comes first, and each doubles the mask; a `fold` would carry the mask in the same way.
         let mut mask = 0;
         for link in (1..=n).rev() {
             mask = 2 * mask + u16::from(self.holds_link(link));

@@ -12,7 +12,8 @@ pub fn slot_count(rows: &[Row]) -> usize
     ensures once { SlotsCountedOnce rows.now }
     ensures gapless { GaplessSlotsCounted rows.now }
 {
-    // Kept: a call that cannot fail asks for no memory, so what was seen is a table of the slots that a row can name, and no set.
+    // Kept: a call that cannot fail asks for no memory, so what was seen is a table of the slots that a row can name, and no set;
+    // the count goes with it, since a `filter` would write the table from inside its closure.
     let mut seen = [false; 65536];
     let mut count = 0;
     for row in rows {

@@ -20,7 +20,7 @@ use ring::{Demand, Route, Side};
 use shut::ShutLink;
 use weights::Weights;
 
-// Kept: the ends are two numbers here, and no struct, since a rule takes any numbers, and this form is the one that rules of one's own implement.
+// Kept: the ends are two numbers, here and in `ring::routes`, as in a demand and in the law; a pair of them would be made and taken apart at each call.
 /// A rule chooses the side for the ends of a demand on a ring of n nodes.
 pub trait Rule {
     /// The side that the rule means, for a ring size, a lower end and an upper end.
@@ -52,7 +52,7 @@ pub fn choose_routes<R: Rule>(n: u8, demands: &[Demand], rule: &R, routes: &mut 
     requires { length routes.old ≡ length demands.now }
     ensures { routes.new ≡ routes_by (R.side rule.now) n demands.now }
 {
-    // Kept: over `routes.iter_mut().zip(demands)`, a proof knows nothing of what the loop wrote, since no name there stands for the routes.
+    // Kept: tried over `routes.iter_mut().zip(demands)`; the proof did not close, since over `iter_mut()` alone an invariant can name the routes, and over a `zip` of it none can.
     for (i, d) in demands.iter().enumerate() {
         routes[i] = route_by(n, *d, rule);
     }

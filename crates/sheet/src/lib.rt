@@ -34,7 +34,7 @@ fn first_free(marks: &[u16], mask: u16) -> Option<usize>
 
 /// Gives a unit with these links the lowest slot that is free for it, marks the links there, and returns the slot.
 #[tactic(auto, using(crate::proofs::Marks::found), unfolding(crate::specs::Marks::marked))]
-// Kept: how long the marks are is a clause, and no type, since they are a list that the caller lends.
+// Kept: how long the marks are is a clause, since they are lent on from call to call; a type for them would be taken apart and made again at each.
 fn place(marks: &mut [u16], mask: u16) -> u16
     requires room { used marks.old < length marks.old }
     requires long { length marks.old ≤ 1024 }

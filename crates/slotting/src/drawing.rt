@@ -35,7 +35,8 @@ fn draw_on<R: Rule>(
     marks: &mut [u16],
     rows: &mut PlanRows,
 ) -> Result<Figures, Refusal>
-    ensures { Draws traffic.now.nodes traffic.now.demands.now (drawn traffic.now.nodes (R.side rule.now) traffic.now.demands.now) (length marks.old) rows.old rows.new result }
+    ensures answer { Draws traffic.now.nodes traffic.now.demands.now (drawn traffic.now.nodes (R.side rule.now) traffic.now.demands.now) (length marks.old) rows.old.items rows.new.items result }
+    ensures room { rows.new.capacity ≡ rows.old.capacity }
 {
     if marks.len() < MARKS {
         return Err(Refusal::TooFew { needed: MARKS });
@@ -68,9 +69,10 @@ pub fn draw<R: Rule>(
     sheet: &mut [u16],
     rows: &mut PlanRows,
 ) -> Result<Figures, Refusal>
-    ensures answer { Draws traffic.now.nodes traffic.now.demands.now (drawn traffic.now.nodes (R.side rule.now) traffic.now.demands.now) (length sheet.old) rows.old rows.new result }
+    ensures answer { Draws traffic.now.nodes traffic.now.demands.now (drawn traffic.now.nodes (R.side rule.now) traffic.now.demands.now) (length sheet.old) rows.old.items rows.new.items result }
+    ensures room { rows.new.capacity ≡ rows.old.capacity }
     ensures blank { Blank sheet.new (length sheet.old) }
-    ensures well { OnOk result (WellDrawn traffic.now.nodes traffic.now.demands.now rows.new) }
+    ensures well { OnOk result (WellDrawn traffic.now.nodes traffic.now.demands.now rows.new.items) }
 {
     let guard = Guard { marks: sheet };
     draw_on(traffic, rule, guard.marks, rows)

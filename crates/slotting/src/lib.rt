@@ -13,6 +13,7 @@ use ring::{Demand, Figures};
 pub use trials::best_link;
 
 /// The demands on a ring for which a plan can be drawn: their ends are on the ring, and no limit is passed.
+// Kept: a type beside `bounds::cuts::RingDemands` and `checkrows::routes::DemandLines`, which hold the same but for less: a call asks for no more than it needs.
 #[derive(Clone, Copy, Debug)]
 pub struct Traffic<'a> {
     pub nodes: u8,

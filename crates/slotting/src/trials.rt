@@ -22,7 +22,8 @@ fn draw_shut(
     rows: &mut PlanRows,
 ) -> Result<Figures, Refusal>
     requires { (1 ≤ link) × (link ≤ 16) }
-    ensures answer { Draws traffic.now.nodes traffic.now.demands.now (drawn traffic.now.nodes (shut link) traffic.now.demands.now) (length sheet.old) rows.old rows.new result }
+    ensures answer { Draws traffic.now.nodes traffic.now.demands.now (drawn traffic.now.nodes (shut link) traffic.now.demands.now) (length sheet.old) rows.old.items rows.new.items result }
+    ensures room { rows.new.capacity ≡ rows.old.capacity }
     ensures blank { Blank sheet.new (length sheet.old) }
 {
     let Ok(rule) = ShutLink::new(link) else {
@@ -33,9 +34,11 @@ fn draw_shut(
 
 /// The best link to shut. The rows of the last trial are left.
 fn try_links(traffic: &Traffic, sheet: &mut [u16], rows: &mut PlanRows) -> Result<u8, Refusal>
-    ensures answer { Tries (best_link traffic.now.nodes traffic.now.demands.now) (length sheet.old) rows.old rows.new result }
+    ensures answer { Tries (best_link traffic.now.nodes traffic.now.demands.now) (length sheet.old) rows.old.items rows.new.items result }
+    ensures room { rows.new.capacity ≡ rows.old.capacity }
     ensures blank { Blank sheet.new (length sheet.old) }
 {
+    // Kept: a `try_fold` would carry the best in the same way, and draw from inside its closure, of which a proof then learns nothing about the rows.
     let mut best = None;
     for link in 1..=traffic.nodes {
         let trial = draw_shut(traffic, link, sheet, rows)?;
@@ -61,9 +64,10 @@ pub fn best_link(
     sheet: &mut [u16],
     rows: &mut PlanRows,
 ) -> Result<BestLink, Refusal>
-    ensures answer { DrawsShut traffic.now.nodes traffic.now.demands.now (best_link traffic.now.nodes traffic.now.demands.now) (length sheet.old) rows.old rows.new result }
+    ensures answer { DrawsShut traffic.now.nodes traffic.now.demands.now (best_link traffic.now.nodes traffic.now.demands.now) (length sheet.old) rows.old.items rows.new.items result }
+    ensures room { rows.new.capacity ≡ rows.old.capacity }
     ensures blank { Blank sheet.new (length sheet.old) }
-    ensures best { IfOk result (λ b. BestDrawn traffic.now.nodes traffic.now.demands.now b.link rows.new) }
+    ensures best { IfOk result (λ b. BestDrawn traffic.now.nodes traffic.now.demands.now b.link rows.new.items) }
 {
     let link = try_links(traffic, sheet, rows)?;
     let figures = draw_shut(traffic, link, sheet, rows)?;

@@ -10,6 +10,7 @@ use crate::slips::Slip;
 use booklaw::Drawing;
 use ring::Refusal;
 
+// Kept: `must_be_open` and `must_be_planned` each match the drawing, and do not ask `is_open`, so that with one more kind of drawing neither is read until it names it.
 impl Book {
     /// Refused where the book is planned: its demands may not change then, and no other plan may be drawn.
     pub(super) fn must_be_open(&self) -> Result<(), Refusal>

@@ -38,6 +38,7 @@ fn card_for(traffic: &Traffic, figures: Figures) -> Card
 }
 
 impl Book {
+    // Kept: two functions, since what they promise of the rows differs: at most twice the slots of every rival, or at most a rival's slots and its load on any one link.
     /// Draws a plan by a rule on marks that are lent.
     fn plan_on<R: Rule>(&mut self, rule: &R, marks: &mut [u16]) -> Result<Card, Refusal>
         ensures does { Does self.old (Plan (R.side rule.now) (R.parallel rule.now) (length marks.old)) (answered result) self.new }

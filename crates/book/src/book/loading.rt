@@ -80,7 +80,7 @@ impl Book {
         }
     }
 
-    // Kept: two calls, and no one with a flag, since a loader that reports an unread slip as loaded has to break what the first of them asks for.
+    // Kept: two calls, and not one with a flag, since only the first asks for a slip that was read.
     /// Takes a read slip back, whose rows were loaded, and clears the mark of its node. A refusal gives the slip back as it was.
     pub fn hand_back_loaded(&mut self, slip: Slip) -> Result<(), (Refusal, Slip)>
         requires { IsRead slip }

@@ -35,7 +35,10 @@ figures_of-requires c =
     let rows = c.args.rows.now in
     let m = length c.args.marks.now in
     let given = c.in_ok-check_given.ensures in
-    record { ring = (limits n lines rows m given).most; few = few n lines rows m given c.in_ok-check_rows.ensures c.in_ok-check_counts.ensures }
+    few n lines rows m given c.in_ok-check_rows.ensures c.in_ok-check_counts.ensures
+
+pub invariant_of-lines : goal.invariant_of-lines
+invariant_of-lines c = record { small = (limits c.args.n c.args.lines.now c.args.rows.now (length c.args.marks.now) c.in_ok-check_given.ensures).most }
 
 pub returns : goal.returns
 returns c =

@@ -5,4 +5,4 @@ use Rattle.checker.proofs.Numbers.{slots_few}
 use Rattle.checker.proofs.figures.figures_of.Goals as goal
 
 pub overflow_cast-result : goal.overflow_cast-result
-overflow_cast-result c = omega (arith, c.slot_count.ensures.value, slots_few c.args.rows.now, c.requires.few)
+overflow_cast-result c = omega (arith, c.slot_count.ensures.value, slots_few c.args.rows.now, c.requires)

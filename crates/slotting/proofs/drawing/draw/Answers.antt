@@ -11,4 +11,4 @@ returns-clause-well g c =
     let n = c.args.traffic.now.nodes in
     let ds = c.args.traffic.now.demands.now in
     let well = draws_well n (g.R.Rule.side rule) ds (to_limits n ds c.args.traffic.now.limits) (g.R.Rule.parallel rule) in
-    MatchResult-weaker c.draw_on.result c.draw_on.ensures (λ s drew. subst (WellDrawn n ds) (sym drew.rows_are) well) (λ e refused. tt)
+    MatchResult-weaker c.draw_on.result c.draw_on.ensures.answer (λ s drew. subst (WellDrawn n ds) (sym drew.rows_are) well) (λ e refused. tt)

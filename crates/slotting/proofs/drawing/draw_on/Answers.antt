@@ -31,7 +31,7 @@ overflow_cast-count g c =
     let σ = g.R.Rule.side c.args.rule.now in
     let routes = c.choose_routes.new.routes in
     let well = draws_well n σ ds limits (g.R.Rule.parallel c.args.rule.now) in
-    let are = rows_drawn n σ ds limits routes c.choose_routes.ensures c.slot_routes.new.slots c.replace.new.self c.slot_routes.ensures c.replace.ensures in
+    let are = rows_drawn n σ ds limits routes c.choose_routes.ensures c.slot_routes.new.slots c.replace.new.self.items c.slot_routes.ensures c.replace.ensures.items in
     omega (arith, well.few, c.slot_count-count.ensures.value, ap slot_count (c.as_slice.ensures ∙ are))
 
 pub invariant_of-link_loads : goal.invariant_of-link_loads
@@ -49,10 +49,13 @@ returns g c =
     let limits = to_limits n ds c.args.traffic.now.limits in
     let σ = g.R.Rule.side c.args.rule.now in
     let routes = c.choose_routes.new.routes in
-    let are = rows_drawn n σ ds limits routes c.choose_routes.ensures c.slot_routes.new.slots c.replace.new.self c.slot_routes.ensures c.replace.ensures in
+    let are = rows_drawn n σ ds limits routes c.choose_routes.ensures c.slot_routes.new.slots c.replace.new.self.items c.slot_routes.ensures c.replace.ensures.items in
     record {
-      long = c.if-marks-lt-MARKS.false;
-      rows_are = are;
-      slots_are = c.slot_count-count.ensures.value ∙ ap slot_count c.as_slice.ensures;
-      loads_are = loads_drawn n σ ds routes _ _ limits c.choose_routes.ensures are c.link_loads.ensures.value;
+      answer = record {
+        long = c.if-marks-lt-MARKS.false;
+        rows_are = are;
+        slots_are = c.slot_count-count.ensures.value ∙ ap slot_count c.as_slice.ensures;
+        loads_are = loads_drawn n σ ds routes _ _ limits c.choose_routes.ensures are c.link_loads.ensures.value;
+      };
+      room = c.replace.ensures.capacity;
     }

@@ -20,5 +20,5 @@ pub returns-clause-best : goal.returns-clause-best
 returns-clause-best c =
     let n = c.args.traffic.now.nodes in
     let ds = c.args.traffic.now.demands.now in
-    let rows : c.draw_shut.new.rows ≡ drawn n (shut (best_link n ds)) ds = c.in_ok-figures.ensures.answer.rows_are ∙ ap (λ e. drawn n (shut e) ds) c.in_ok-link.ensures.answer.link_is in
+    let rows : c.draw_shut.new.rows.items ≡ drawn n (shut (best_link n ds)) ds = c.in_ok-figures.ensures.answer.rows_are ∙ ap (λ e. drawn n (shut e) ds) c.in_ok-link.ensures.answer.link_is in
     subst₂ (BestDrawn n ds) (sym c.in_ok-link.ensures.answer.link_is) (sym rows) (draws_best n ds (to_limits n ds c.args.traffic.now.limits))

@@ -18,6 +18,7 @@ loop-link-preserved c =
     let back : c.loop-link.link ≡ c.loop-link.link + 1 - 1 = omega arith in (
       tried_next n ds c.loop-link.link _ c.loop-link.best _ (omega (arith, c.loop-link.auto.link)) c.loop-link.invariant.0 (drew.slots_are ∙ ap slot_count drew.rows_are) c.keep_first_best-best.ensures ∙ ap (tried n ds) back,
       (λ e. absurd (omega (arith, c.loop-link.auto.link))),
+      c.in_ok-trial.ensures.room ∙ c.loop-link.invariant.2,
       (λ l. (omega (arith, drew.long, c.loop-link.auto.sheet), c.in_ok-trial.ensures.blank ∙ ap (λ (k : ℕ). replicate {A = ℕ} k 0) c.loop-link.auto.sheet)),
     )
 
@@ -36,6 +37,7 @@ returns c =
           let best : c.in-Some.best ≡ trial n ds (best_link n ds) = cc in
           record {
             answer = record { long = omega (arith, drew.long, c.loop-link.auto.sheet); link_is = ap (λ (b : Best ℕ ℕ). b.candidate) best };
+            room = ap (λ r. r.capacity) w.rows-is ∙ w.in_ok-trial.ensures.room ∙ c.loop-link.invariant.2;
             blank = w.sheet-is ∙ w.in_ok-trial.ensures.blank ∙ ap (λ (k : ℕ). replicate {A = ℕ} k 0) c.loop-link.auto.sheet;
           }
     ]

@@ -7,5 +7,6 @@ use Rattle.slotting.proofs.trials.try_links.Given as goal
 abbrev pub invariant-loop-link : goal.invariant-loop-link
 invariant-loop-link l =
     (l.best ≡ tried l.traffic.nodes l.traffic.demands.now (l.link - 1))
-    × (l.link ≡ 1 → l.rows ≡ l.initial.rows)
+    × (l.link ≡ 1 → l.rows.items ≡ l.initial.rows.items)
+    × (l.rows.capacity ≡ l.initial.rows.capacity)
     × (1 < l.link → (1024 ≤ length l.initial.sheet) × Blank l.sheet (length l.initial.sheet))

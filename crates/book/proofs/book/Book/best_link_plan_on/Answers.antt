@@ -22,7 +22,7 @@ returns c =
     let e = c.in_ok-best.ensures in
     let drew = e.answer.1 in
     let there = c.as_slice.ensures.value in
-    let rows = c.best_link.new.rows in
+    let rows = c.best_link.new.rows.items in
     let link-is = e.answer.0 ∙ ap (best_link b.size) there in
     let rows_are = drew.rows_are ∙ ap (λ ds. drawn b.size (shut (best_link b.size ds)) ds) there in
     record {

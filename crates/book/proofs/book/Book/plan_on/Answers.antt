@@ -25,5 +25,5 @@ returns g c =
     record {
       does = does b _ (Plan σ law (length c.args.marks.now)) (may_draw (state b) _ c.in_ok-must_be_open.ensures e.answer.long) (ap (with_plan (state b) ByRule) (e.answer.rows_are ∙ ap (drawn b.size σ) there));
       card = card_is b.size (demands_in b) _ _ _ _ there e.answer.slots_are e.answer.loads_are c.card_for-card.ensures;
-      well = subst (λ ds. WellDrawn b.size ds c.draw.new.rows) there e.well;
+      well = subst (λ ds. WellDrawn b.size ds c.draw.new.rows.items) there e.well;
     }
