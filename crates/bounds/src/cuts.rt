@@ -7,7 +7,7 @@ ghost use Rattle.ring.specs.Cuts.{cut_at, heaviest_after, heaviest_cut, Heaviest
 ghost use Rattle.bounds.specs.Measures.{heavy_cut};
 ghost use Rattle.bounds.specs.Claims.{LoadsFitSlots, PlansPayForCuts, NoPlanHasFewer};
 
-use ring::choosing::{Best, first_best};
+use ring::choosing::{Best, first_best_of};
 use ring::routes::is_within;
 use ring::{Cut, Demand};
 use std::cmp::Reverse;
@@ -20,20 +20,24 @@ fn crosses(d: &Demand, first: u8, second: u8) -> bool
     is_within(d.lower, d.upper, first) != is_within(d.lower, d.upper, second)
 }
 
+/// The units of the demand if its clockwise route holds exactly one of the two links, else 0. Its units count once.
+fn units_across(d: &Demand, first: u8, second: u8) -> u16
+    ensures { result ≡ (if crosses d.now first second then d.now.units else 0) }
+{
+    if crosses(d, first, second) {
+        u16::from(d.units)
+    } else {
+        0
+    }
+}
+
 /// The total of the cut at two links: the units of the demands whose clockwise route holds exactly one of them, each demand's once.
 pub fn cut_total(demands: &[Demand], first: u8, second: u8) -> u16
     requires { units demands.now ≤ 1024 }
     ensures { result ≡ cut demands.now first second }
 {
     // Kept: no `filter`, for the reason that `load_of` has.
-    demands
-        .iter()
-        .map(|d| if crosses(d, first, second) {
-            u16::from(d.units)
-        } else {
-            0
-        })
-        .sum()
+    demands.iter().map(|d| units_across(d, first, second)).sum()
 }
 
 /// Demands on a ring of 3 to 16 nodes, of at most 1,024 units in all.
@@ -62,7 +66,7 @@ impl RingDemands<'_> {
                 measure: Reverse(total),
             }
         });
-        first_best(cuts).unwrap()
+        first_best_of(cuts).unwrap()
     }
 
     /// The heaviest cut of the ring with its links: the first greatest in the order of the lower link, then of the upper one.
@@ -71,7 +75,7 @@ impl RingDemands<'_> {
         ensures heaviest { HeaviestCut self.now.nodes self.now.demands.now result }
     {
         let cuts = (1..self.nodes).map(|e| self.heaviest_after(e));
-        first_best(cuts).unwrap().candidate
+        first_best_of(cuts).unwrap().candidate
     }
 
     /// The lower bound: half the heaviest cut's total, rounded up. No plan for the demands has fewer slots, since in every plan the load of a link is

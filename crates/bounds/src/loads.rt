@@ -6,8 +6,19 @@ ghost use Rattle.bounds.specs.Measures.{least_loaded};
 ghost use Rattle.bounds.specs.Claims.{LoadsFitTheHeaviestCut, ShutRoutesLoadCuts};
 
 use ring::Route;
-use ring::choosing::{Best, first_best};
+use ring::choosing::{Best, first_best_of};
 use ring::links::figure_per_link;
+
+/// The units of the route if it holds the link, else 0.
+fn units_over(d: &Route, link: u8) -> u16
+    ensures { result ≡ (if holds d.now link then d.now.demand.units else 0) }
+{
+    if d.holds_link(link) {
+        u16::from(d.demand.units)
+    } else {
+        0
+    }
+}
 
 /// The load of a link: the units of the routes that hold it.
 pub fn load_of(routes: &[Route], link: u8) -> u16
@@ -15,14 +26,7 @@ pub fn load_of(routes: &[Route], link: u8) -> u16
     ensures { result ≡ route_load routes.now link }
 {
     // Kept: tried as `filter(..).map(..).sum()`; neither that the sum fits nor its value was proved then.
-    routes
-        .iter()
-        .map(|r| if r.holds_link(link) {
-            u16::from(r.demand.units)
-        } else {
-            0
-        })
-        .sum()
+    routes.iter().map(|r| units_over(r, link)).sum()
 }
 
 /// Demands on their sides, on a ring of 3 to 16 nodes, of at most 1,024 units in all.
@@ -56,6 +60,6 @@ impl RingRoutes<'_> {
             candidate: link,
             measure: load_of(self.routes, link),
         });
-        first_best(links).unwrap()
+        first_best_of(links).unwrap()
     }
 }

@@ -1,7 +1,8 @@
-//! What a report says of a refusal beside its number, its cause and its line.
+//! The causes of refusals in plain words, and what a report says of each beside its number and its line.
 #![tactic(auto)]
 
 ghost use Rattle.std.specs.Prelude.{◌≡◌};
+ghost use Rattle.refusals.specs.Refusals.{cause_words};
 ghost use Rattle.causes.specs.Causes.{detail_of};
 
 use ring::Refusal;
@@ -14,6 +15,13 @@ pub struct Detail {
     pub place: Option<usize>,
     pub row: Option<usize>,
     pub met: Option<usize>,
+}
+
+/// The cause in plain words, as bytes.
+pub fn cause_words(refusal: Refusal) -> &'static [u8]
+    ensures { result.now ≡ cause_words refusal }
+{
+    refusal.words().as_bytes()
 }
 
 impl From<Refusal> for Detail {

@@ -3,7 +3,6 @@ use Rattle.std.proofs.Common.{◌≡◌, ℕ, suc, ◌+◌, Bool, true, false, c
 use Rattle.std.specs.List.{prefix_len, position_or_len, position}
 use Rattle.std.proofs.lemmas.Bool.{ltb-true}
 use Rattle.std.proofs.lemmas.Bool.Decides.{nat_tests}
-use Rattle.std.proofs.lemmas.Option.{none-some}
 use Rattle.std.specs.Option.{option_map}
 use Rattle.refusals.specs.declared.Refusal.{Refusal}
 use Rattle.refusals.specs.declared.Refusal.TheVariants.{CountWrong}
@@ -23,13 +22,6 @@ one_more false t k n ih = ih ∙ grind (arith, nat_tests)
 pub some_place : {X : Type 0} (p : X → Bool) (xs : List X) → some p xs ≡ ltb (position_or_len p xs) (length xs)
 some_place p [] = refl
 some_place p (x ∷ xs) = one_more (p x) (some p xs) (position_or_len p xs) (length xs) (some_place p xs)
-
-pub no_place : {X : Type 0} (p : X → Bool) (xs : List X) → position p xs ≡ None → some p xs ≡ false
-no_place p xs h = some_place p xs ∙ go (ltb (position_or_len p xs) (length xs)) h
-  where
-    go : (b : Bool) → cond b (Some (position_or_len p xs)) None ≡ None → b ≡ false
-    go true e = absurd (none-some _ (sym e))
-    go false e = refl
 
 named_place : (ds : List Demand) (k : ℕ) → named ds k ≡ ltb (line_of ds k) (length ds)
 named_place [] k = refl

@@ -1,10 +1,9 @@
 -- The sheet of marks and the first sides stand for the rows so far.
 use Rattle.std.proofs.Common.{◌≡◌, ℕ, zero, suc, ◌+◌, ◌-◌, ◌<◌, ◌≤◌, Bool, true, false, cond, not, ◌&&◌, ◌||◌, eqb, ltb, leb, ◌⊎◌, List, [], ◌∷◌, ◌++◌, length, get_or, take, set, replicate, Some, None, Option, sym, refl, ap, ◌∙◌, subst, ap₂, ⊎_elim, arith}
 use lib.Bits.{bit_or}
-use Rattle.std.specs.List.{range_with_len, position_or_len, position}
+use Rattle.std.specs.List.{range_with_len, position_or_len}
 use Rattle.std.proofs.lemmas.List.{get_or-set_same, get_or-set_other, get_or-take, length-take-le, get_or-replicate, get_or_past, length-replicate}
 use Rattle.std.proofs.lemmas.List.Sums.{position_or_len_is, passes_at_first}
-use Rattle.std.proofs.lemmas.List.Quantifiers.{position-Some}
 use Rattle.std.proofs.ByRecursion.{All-get_or}
 use Rattle.std.proofs.lemmas.Bool.{ltb-true, eqb-true, eq-eqb, ne_eqb, cases_eq, cases_lt, cases_order, both_ways, cond-true, cond-false, not_from_true}
 use Rattle.ring.specs.Sums.{some}
@@ -20,7 +19,7 @@ use Rattle.ring.specs.declared.Row.{Row}
 use Rattle.refusals.specs.declared.Refusal.TheVariants.{SlotOutside, SideWrong, Collision}
 use Rattle.checklines.proofs.Walk.{none_passes}
 use Rattle.checkrows.proofs.Links.{none_bits}
-use Rattle.checkrows.proofs.Places.{some_place, no_place}
+use Rattle.checkrows.proofs.Places.{some_place}
 use Rattle.ring.proofs.Bits.{bits_and, bits_or, bits_same, bits_some, some_same, some_or, some_none}
 
 some_push : {X : Type 0} (p : X → Bool) (xs : List X) (x : X) → some p (xs ++ x ∷ []) ≡ (some p xs || p x)
@@ -123,21 +122,6 @@ clear_more n ds rows i l h k b lb =
     here a la =
         ap (clash n ds (row_at rows i)) (sym (get_or-take i rows a none la))
         ∙ All-get_or (λ (q : Row). clash n ds (row_at rows i) q ≡ false) (take i rows) a none (omega (arith, length-take-le i rows (omega arith))) (none_passes (clash n ds (row_at rows i)) (take i rows) k)
-
--- one step of the loop over the rows: row i collides with an earlier one, or with none
-pub pair_found : (n : ℕ) (ds : List Demand) (rows : List Row) (i j : ℕ) → i < length rows → ClearTo n ds rows i → position (clash n ds (row_at rows i)) (take i rows) ≡ Some j → FirstClash n ds rows i j
-pair_found n ds rows i j l h e =
-    let m = position-Some (clash n ds (row_at rows i)) (take i rows) j none e in
-    let lower : j < i = omega (arith, m.0, length-take-le i rows (omega arith)) in (
-      lower,
-      l,
-      ap (clash n ds (row_at rows i)) (sym (get_or-take i rows j none lower)) ∙ m.1,
-      (λ a la. ap (clash n ds (row_at rows i)) (sym (get_or-take i rows a none (omega arith))) ∙ m.2 a la),
-      h,
-    )
-
-pub pair_none : (n : ℕ) (ds : List Demand) (rows : List Row) (i : ℕ) → i < length rows → ClearTo n ds rows i → position (clash n ds (row_at rows i)) (take i rows) ≡ None → ClearTo n ds rows (i + 1)
-pair_none n ds rows i l h e = clear_more n ds rows i l h (no_place (clash n ds (row_at rows i)) (take i rows) e)
 
 some_here : {X : Type 0} (p : X → Bool) (xs : List X) (d : X) → some p xs ≡ true → ((a : ℕ) → a < length xs → p (get_or xs a d) ≡ false) → ⊥
 some_here p xs d h f =

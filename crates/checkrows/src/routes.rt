@@ -1,6 +1,6 @@
 //! The routes of rows, and rows that collide.
 
-ghost use Rattle.std.specs.Prelude.{◌≡◌, ℕ, ◌≤◌, false, length, position, MatchOption, ◌==◌};
+ghost use Rattle.std.specs.Prelude.{◌≡◌, ℕ, ◌≤◌, false, length, MatchOption, ◌==◌};
 ghost use Rattle.ring.specs.Ring.{named, row_over};
 ghost use Rattle.ring.specs.Sides.{code as code_of, holds};
 ghost use Rattle.checkrows.specs.Rows.{clash};
@@ -69,24 +69,20 @@ impl DemandLines<'_> {
         earlier.slot == row.slot && self.row_mask(row) & self.row_mask(earlier) != 0
     }
 
-    /// The place of the earliest of some rows that the row collides with.
-    fn first_met(&self, row: Row, before: &[Row]) -> Option<usize>
-        ensures { result ≡ position (clash self.now.nodes self.now.lines.now row) before.now }
-    {
-        before
-            .iter()
-            .position(|earlier| self.collide(row, *earlier))
-    }
-
     /// The first row that collides with an earlier one, and the earliest row that it meets, by their places from 0.
     pub fn colliding_pair(&self, rows: &[Row]) -> Option<(usize, usize)>
         ensures { MatchOption result (ClearTo self.now.nodes self.now.lines.now rows.now (length rows.now)) (λ p. FirstClash self.now.nodes self.now.lines.now rows.now p.0 p.1) }
     {
-        for (i, row) in rows.iter().enumerate() {
-            if let Some(met) = self.first_met(*row, &rows[..i]) {
-                return Some((i, met));
+        let mut pair = None;
+        // Kept: nested loops, left by a label with the pair, are the form that this project wants here: the search ends at the first pair found, and the edits turn just that.
+        'search: for i in 0..rows.len() {
+            for j in 0..i {
+                if self.collide(rows[i], rows[j]) {
+                    pair = Some((i, j));
+                    break 'search;
+                }
             }
         }
-        None
+        pair
     }
 }

@@ -8,7 +8,8 @@ use Rattle.lines.proofs.Writes.{over_is, over_append, length_bytes_of}
 use Rattle.frames.specs.declared.Frame.{Frame}
 use Rattle.frames.specs.declared.FrameFault.{FrameFault}
 use Rattle.frames.specs.declared.FrameFault.TheVariants.{Line, Form, Order, TooFew}
-use Rattle.lines.specs.Lines.{lines_of, digits, well_formed, fault_of, line_bytes}
+use Rattle.lines.specs.Lines.{lines_of, line_length, digits, well_formed, fault_of, line_bytes}
+use Rattle.lines.proofs.First.{lines_first, bytes_first, rest_first}
 use Rattle.ring.specs.declared.Demand.{Demand}
 use Rattle.ring.specs.declared.Row.{Row}
 use Rattle.frames.specs.declared.Frame.TheVariants.{RingFrame, DemandFrame, UnitFrame, EndFrame}
@@ -162,15 +163,24 @@ module _ (D R : ℕ) where
       ∙ ap (λ r. elim r [ Ok q ↦ began f (read_lines D R (line + 1) q ls) | Err e ↦ refused e ]) t
 
 -- one line, by what its reading gives
-module _ (D R : ℕ) (rest part rest' : List ℕ) (parted : lines_of rest ≡ part ∷ lines_of rest') (line : ℕ) (p : Progress) where
-  pub line_refused : (e : FrameFault) → frame_in line (line_bytes line part) ≡ Err e → read_lines D R line p (lines_of rest) ≡ refused e
-  line_refused e h = ap (read_lines D R line p) parted ∙ read_err D R line p e part (lines_of rest') h
+module _ (D R : ℕ) (rest : List ℕ) (some : 0 < length rest) (line : ℕ) (p : Progress) where
+  first : read_lines D R line p (lines_of rest) ≡ read_lines D R line p (take (line_length rest + 1) rest ∷ lines_of (drop (line_length rest + 1) rest))
+  first = ap (read_lines D R line p) (lines_first rest some)
 
-  pub frame_refused : (f : Frame) (e : FrameFault) → frame_in line (line_bytes line part) ≡ Ok f → taken D R line p f ≡ Err e → read_lines D R line p (lines_of rest) ≡ refused e
-  frame_refused f e h t = ap (read_lines D R line p) parted ∙ read_none D R line p f e part (lines_of rest') h t
+  frame_first : (r : Result Frame FrameFault) → frame_in line (line_bytes line rest) ≡ r → frame_in line (line_bytes line (take (line_length rest + 1) rest)) ≡ r
+  frame_first r h = ap (frame_in line) (bytes_first line rest) ∙ h
 
-  pub frame_taken : (f : Frame) (q : Progress) → frame_in line (line_bytes line part) ≡ Ok f → taken D R line p f ≡ Ok q → read_lines D R line p (lines_of rest) ≡ began f (read_lines D R (line + 1) q (lines_of rest'))
-  frame_taken f q h t = ap (read_lines D R line p) parted ∙ read_one D R line p q f part (lines_of rest') h t
+  pub line_refused : (e : FrameFault) → frame_in line (line_bytes line rest) ≡ Err e → read_lines D R line p (lines_of rest) ≡ refused e
+  line_refused e h = first ∙ read_err D R line p e (take (line_length rest + 1) rest) (lines_of (drop (line_length rest + 1) rest)) (frame_first (Err e) h)
+
+  pub frame_refused : (f : Frame) (e : FrameFault) → frame_in line (line_bytes line rest) ≡ Ok f → taken D R line p f ≡ Err e → read_lines D R line p (lines_of rest) ≡ refused e
+  frame_refused f e h t = first ∙ read_none D R line p f e (take (line_length rest + 1) rest) (lines_of (drop (line_length rest + 1) rest)) (frame_first (Ok f) h) t
+
+  pub frame_taken : (f : Frame) (q : Progress) → well_formed rest ≡ true → frame_in line (line_bytes line rest) ≡ Ok f → taken D R line p f ≡ Ok q → read_lines D R line p (lines_of rest) ≡ began f (read_lines D R (line + 1) q (lines_of (drop (digits rest + 1) rest)))
+  frame_taken f q w h t =
+      first
+      ∙ read_one D R line p q f (take (line_length rest + 1) rest) (lines_of (drop (line_length rest + 1) rest)) (frame_first (Ok f) h) t
+      ∙ ap (λ n. began f (read_lines D R (line + 1) q (lines_of (drop (n + 1) rest)))) (rest_first rest w)
 
 -- the frame of a line that is well formed, and the fault of one that is not
 module _ (line : ℕ) (part : List ℕ) where

@@ -133,12 +133,15 @@ pub fn read_file(
         demands: 0,
         units: 0,
     };
-    // Kept: the line is counted by hand, since `stop` names the line after the last part, which `enumerate` would not say.
+    // Kept: the digits of a line say where the next one begins, and no `split_inclusive` cuts the text first: that would go through a line of any length to its
+    // line feed before its first character is looked at.
     let mut line = 1;
-    for part in text.split_inclusive(|c| *c == b'\n') {
-        let digits = next_line(part, line)?;
+    let mut rest = text;
+    while rest.len() > 0 {
+        let digits = next_line(rest, line)?;
         let frame = frame_of(digits, line)?;
         p = take_frame(p, frame, line, demands, rows)?;
+        rest = &rest[digits.len() + 1..];
         line += 1;
     }
     stop(p, line)

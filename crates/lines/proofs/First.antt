@@ -1,16 +1,23 @@
 -- The first line of a text, and the rest of it.
-use Rattle.std.proofs.Common.{◌≡◌, ℕ, zero, suc, ◌+◌, ◌-◌, ◌<◌, ◌≤◌, Bool, true, false, not, eqb, List, [], ◌∷◌, ◌++◌, min, length, get_or, take, drop, Option, Some, None, option_map, unwrap_or, slice_get, sym, refl, ap, ◌∙◌, inl, inr, one-add, arith}
-use Rattle.std.specs.List.{prefix_len, slice_split, onto_first, IsFirstMatchOrLen}
-use Rattle.std.proofs.lemmas.List.Sums.{prefix_len_passes, prefix_len_stops, position_or_len_is}
+use Rattle.std.proofs.Common.{◌≡◌, ℕ, zero, suc, ◌+◌, ◌-◌, ◌%◌, ◌<◌, ◌≤◌, Bool, true, false, cond, not, ◌&&◌, eqb, ltb, List, [], ◌∷◌, length, get_or, take, drop, Ok, Err, Option, Some, None, option_map, unwrap_or, slice_get, sym, refl, ap, ◌∙◌, inl, inr, add-one, one-add, arith}
+use Rattle.std.specs.List.{prefix_len, slice_split, onto_first}
+use Rattle.std.proofs.lemmas.Bool.Decides.{nat_tests}
+use Rattle.std.proofs.lemmas.List.Sums.{prefix_len_passes, prefix_len_stops}
 use Rattle.std.proofs.lemmas.Option.{unwrap_or-slice_get}
 use Rattle.std.proofs.lemmas.List.Splits.{slice_split-cons_yes, slice_split-cons_no}
-use Rattle.std.proofs.lemmas.List.{get_or_past, take_at, take_all, drop_all, append-nil, nil_from_length, length-append}
-use Rattle.std.proofs.Math.Seq.{drop-append_seam}
-use Rattle.std.proofs.lemmas.Bool.{cases_Bool, cases_lt, cond-true, cond-false}
+use Rattle.std.proofs.lemmas.List.{get_or-take, get_or_past, take-take}
+use Rattle.std.proofs.lemmas.Bool.{eqb-true, eq-eqb, cases_Bool, cases_lt, cond-true, cond-false, and_parts}
 use Rattle.lines.specs.declared.LineFault.{LineFault}
-use Rattle.lines.specs.Hex.{is_digit}
-use Rattle.lines.specs.Lines.{ahead, lines_of, line_length, digits, formed_at, fault_of, unfed, Breaks, Unformed}
+use Rattle.lines.specs.Hex.{is_digit, bytes_of}
+use Rattle.lines.specs.Lines.{ahead, lines_of, line_length, digits, formed_at, well_formed, fault_of, line_bytes, unfed, Breaks, Unformed}
 use Rattle.lines.proofs.Back.{leading_yes, leading_no}
+
+-- a line feed is no digit
+digit_no_feed : (c : ℕ) → is_digit c ≡ true → eqb c 10 ≡ false
+digit_no_feed c h = grind (arith, nat_tests)
+
+feed_no_digit : (c : ℕ) → eqb c 10 ≡ true → is_digit c ≡ false
+feed_no_digit c h = grind (arith, nat_tests)
 
 -- the length of a line, one character on
 length_feed : (c : ℕ) (cs : List ℕ) → eqb c 10 ≡ true → line_length (c ∷ cs) ≡ 0
@@ -18,6 +25,33 @@ length_feed c cs h = leading_no (λ c. not (eqb c 10)) c cs (ap not h)
 
 length_more : (c : ℕ) (cs : List ℕ) → eqb c 10 ≡ false → line_length (c ∷ cs) ≡ 1 + line_length cs
 length_more c cs h = leading_yes (λ c. not (eqb c 10)) c cs (ap not h)
+
+-- the digits that a text begins with stand in its first line
+pub digits_le : (text : List ℕ) → digits text ≤ line_length text
+digits_le [] = omega arith
+digits_le (c ∷ cs) = elim (cases_Bool (is_digit c)) [
+  | inl y ↦ omega (arith, leading_yes is_digit c cs y, length_more c cs (digit_no_feed c y), digits_le cs)
+  | inr n ↦ omega (arith, leading_no is_digit c cs n)
+]
+
+-- a line feed ends the first line
+pub feed_at : (text : List ℕ) (d : ℕ) → get_or text d 0 ≡ 10 → line_length text ≤ d
+feed_at [] d h = omega arith
+feed_at (c ∷ cs) zero h = omega (arith, length_feed c cs (eq-eqb c 10 h))
+feed_at (c ∷ cs) (suc d) h = elim (cases_Bool (eqb c 10)) [
+  | inl y ↦ omega (arith, length_feed c cs y)
+  | inr n ↦ omega (arith, length_more c cs n, feed_at cs d h)
+]
+
+-- the first line has the digits that the text begins with
+pub digits_first : (text : List ℕ) → digits (take (line_length text + 1) text) ≡ digits text
+digits_first [] = refl
+digits_first (c ∷ cs) = elim (cases_Bool (is_digit c)) [
+  | inl y ↦ (let z : line_length (c ∷ cs) + 1 ≡ suc (line_length cs + 1) = omega (arith, length_more c cs (digit_no_feed c y)) in
+      ap (λ n. digits (take n (c ∷ cs))) z ∙ leading_yes is_digit c (take (line_length cs + 1) cs) y ∙ ap (λ n. 1 + n) (digits_first cs) ∙ sym (leading_yes is_digit c cs y))
+  | inr n ↦ (let z : line_length (c ∷ cs) + 1 ≡ suc (line_length (c ∷ cs)) = add-one (line_length (c ∷ cs)) in
+      ap (λ k. digits (take k (c ∷ cs))) z ∙ leading_no is_digit c (take (line_length (c ∷ cs)) cs) n ∙ sym (leading_no is_digit c cs n))
+]
 
 -- the lines of a text are its first line and the lines of what follows it
 ahead_first : (c : ℕ) (cs : List ℕ) → (0 < length cs → lines_of cs ≡ take (line_length cs + 1) cs ∷ lines_of (drop (line_length cs + 1) cs)) → ahead c (lines_of cs) ≡ (c ∷ take (line_length cs + 1) cs) ∷ lines_of (drop (line_length cs + 1) cs)
@@ -33,31 +67,25 @@ lines_first (c ∷ cs) h = elim (cases_Bool (eqb c 10)) [
       cond-false (eqb c 10) ((c ∷ []) ∷ lines_of cs) (ahead c (lines_of cs)) n ∙ ahead_first c cs (lines_first cs) ∙ sym (ap (λ n. take n (c ∷ cs) ∷ lines_of (drop n (c ∷ cs))) z))
 ]
 
--- the front of a text up to a place where its first part ends, or past the whole text, and what follows
-front_is : (text part rest : List ℕ) (n : ℕ) → text ≡ part ++ rest → length part ≤ n → (length part < n → length part ≡ length text) → take n text ≡ part
-front_is text part rest n e le past = elim (cases_lt (length part) n) [
-  | inl l ↦ (let none : length rest ≡ 0 = omega (arith, past l, ap length e, length-append part rest) in
-      take_all n text (omega (arith, past l)) ∙ e ∙ ap (λ r. part ++ r) (nil_from_length rest none) ∙ append-nil part)
-  | inr m ↦ ap (take n) e ∙ take_at part rest n (omega arith)
-]
+-- the first line is read as the text is
+pub bytes_first : (k : ℕ) (text : List ℕ) → line_bytes k (take (line_length text + 1) text) ≡ line_bytes k text
+bytes_first k text =
+    let l = take (line_length text + 1) text in
+    let d = digits text in
+    let below : d < line_length text + 1 = omega (arith, digits_le text) in
+    let within : d ≤ line_length text + 1 = omega arith in
+    let same : digits l ≡ d = digits_first text in
+    let at : get_or l d 0 ≡ get_or text d 0 = get_or-take (line_length text + 1) text d 0 below in
+    let front : take d l ≡ take d text = take-take d (line_length text + 1) text within in
+    ap (λ n. cond (formed_at l n) (Ok (bytes_of (take n l))) (Err (record { line = k; character = n + 1 }))) same
+    ∙ ap (λ c. cond (eqb c 10 && (ltb 0 d && eqb (d % 2) 0)) (Ok (bytes_of (take d l))) (Err (fault_of k text))) at
+    ∙ ap (λ t. cond (well_formed text) (Ok (bytes_of t)) (Err (fault_of k text))) front
 
-back_is : (text part rest : List ℕ) (n : ℕ) → text ≡ part ++ rest → length part ≤ n → (length part < n → length part ≡ length text) → drop n text ≡ rest
-back_is text part rest n e le past = elim (cases_lt (length part) n) [
-  | inl l ↦ (let none : length rest ≡ 0 = omega (arith, past l, ap length e, length-append part rest) in
-      drop_all n text (omega (arith, past l)) ∙ sym (nil_from_length rest none))
-  | inr m ↦ ap (drop n) e ∙ (ap (λ k. drop k (part ++ rest)) (let z : n ≡ length part = omega arith in z) ∙ drop-append_seam part rest)
-]
-
--- a text is its first line, which a part that ends with the first line feed is, and the lines of what follows
-pub lines_parted : (text part rest : List ℕ) (i : ℕ) → text ≡ part ++ rest → length part ≡ min (i + 1) (length text) → IsFirstMatchOrLen (λ c. eqb c 10) text i → 0 < length text → lines_of text ≡ part ∷ lines_of rest
-lines_parted text part rest i e long here some =
-    let n : line_length text ≡ min i (length text) = elim (cases_lt i (length text)) [
-      | inl l ↦ omega (arith, position_or_len_is (λ c. eqb c 10) text i 0 (omega arith) (λ k b. here.0 k 0 (omega arith) b) (λ b. here.1 l 0))
-      | inr past ↦ omega (arith, position_or_len_is (λ c. eqb c 10) text (length text) 0 (omega arith) (λ k b. here.0 k 0 (omega arith) (omega arith)) (λ b. absurd (omega arith)))
-    ] in
-    let front : take (line_length text + 1) text ≡ part = front_is text part rest (line_length text + 1) e (omega arith) (λ l. omega arith) in
-    let back : drop (line_length text + 1) text ≡ rest = back_is text part rest (line_length text + 1) e (omega arith) (λ l. omega arith) in
-    lines_first text some ∙ ap (λ l. l ∷ lines_of (drop (line_length text + 1) text)) front ∙ ap (λ r. part ∷ lines_of r) back
+-- what follows a first line that is well formed
+pub rest_first : (text : List ℕ) → well_formed text ≡ true → line_length text ≡ digits text
+rest_first text h =
+    let feed : get_or text (digits text) 0 ≡ 10 = eqb-true (get_or text (digits text) 0) 10 (and_parts (eqb (get_or text (digits text) 0) 10) (ltb 0 (digits text) && eqb (digits text % 2) 0) h).0 in
+    omega (arith, digits_le text, feed_at text (digits text) feed)
 
 -- a text cut at each line feed has its lines, without their line feeds
 onto_head : (c : ℕ) (parts : List (List ℕ)) → get_or (onto_first c parts) 0 [] ≡ c ∷ get_or parts 0 []

@@ -97,8 +97,9 @@ fn print_rows(rt: &HostRuntime, node: u8, rows: &[Row]) -> anyhow::Result<()> {
 /// Loads each node of the ring, and prints its rows.
 fn load_all(rt: &HostRuntime, book: &mut Book) -> anyhow::Result<()> {
     for node in 1..=book.size() {
-        let mut places = vec![in rt.alloc(); Row::default(); 16]?;
-        match load_node(book, node, places.as_mut_slice()) {
+        // Kept: an array, since a loader takes no memory once its book is started.
+        let mut places = [Row::default(); 16];
+        match load_node(book, node, &mut places) {
             Ok(count) => print_rows(rt, node, &places[..count.min(places.len())])?,
             Err(refusal) => print_refusal(rt, "loading", refusal)?,
         }

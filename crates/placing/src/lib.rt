@@ -67,8 +67,8 @@ impl OpenRing {
         }
     }
 
-    // Kept: the marks and the slots, with their lengths, are parameters of their own, since each call lends them on to the next; a struct of them would be taken apart for each.
-    // Kept: a call of itself, and no loop, since each call lends the rest of both lists on; it goes as deep as there are routes, which a drawing has at most 128 of.
+    // Kept: the marks and the slots, with their lengths, are parameters of their own, since each function lends them on to the next; a struct of them would be taken apart for each call.
+    // Kept: a place that moves through the slots. Of a rest of them that is split again for each route, a proof does not learn what was written; a call of itself for the other routes would take stack for each route.
     /// Places the units of the routes whose turn it is, in their order. `slots` has a place for each unit of each route.
     fn place_turn(self, routes: &[Route], turn: Turn, marks: &mut [u16], slots: &mut [u16])
         requires long { length marks.old ≤ 1024 }
@@ -77,12 +77,12 @@ impl OpenRing {
         ensures marks { marks.new ≡ fold (marks_after self.nodes (comes self.cut turn)) marks.old routes.now }
         ensures slots { slots.new ≡ filled self.nodes (comes self.cut turn) marks.old slots.old routes.now }
     {
-        let Some((route, others)) = routes.split_first() else {
-            return;
-        };
-        let (part, rest) = slots.split_at_mut(usize::from(route.demand.units));
-        self.place_route(route, turn, marks, part);
-        self.place_turn(others, turn, marks, rest);
+        let mut at = 0;
+        for route in routes {
+            let end = at + usize::from(route.demand.units);
+            self.place_route(route, turn, marks, &mut slots[at..end]);
+            at = end;
+        }
     }
 
     /// The turns of the nodes from `first` up to `end`, which is left out.

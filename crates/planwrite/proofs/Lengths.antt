@@ -1,12 +1,8 @@
 -- The text of a plan written part by part: its length, and what the bytes hold.
-use Rattle.std.proofs.Common.{◌≡◌, ℕ, ◌+◌, ◌*◌, ◌/◌, ◌%◌, ◌<◌, ◌≤◌, cond, leb, List, [], ◌∷◌, ◌++◌, map, length, take, drop, Some, Option, Ok, Err, sym, refl, ap, map-id, ◌∙◌, inl, inr, arith}
+use Rattle.std.proofs.Common.{◌≡◌, ℕ, ◌+◌, ◌*◌, ◌/◌, ◌%◌, ◌<◌, ◌≤◌, cond, leb, List, [], ◌∷◌, ◌++◌, map, length, get_or, take, drop, Ok, Err, sym, refl, ap, ◌∙◌, inl, inr, arith}
 use Rattle.std.specs.List.{flat_map}
-use Rattle.std.specs.Iterator.{Yields}
-use Rattle.std.proofs.lemmas.Iterator.{YieldsList}
-use Rattle.std.proofs.lemmas.Iterator.Consumers.{YieldsList-so_far, YieldsList-turn}
 use Rattle.std.proofs.lemmas.Grind.{flat_map-append}
-use Rattle.std.proofs.lemmas.List.Folds.{length-flat_map-take}
-use Rattle.std.proofs.lemmas.List.{length-append, append_assoc, append-nil, take_at}
+use Rattle.std.proofs.lemmas.List.{length-append, append_assoc, append-nil, take_all, take_at, map_more}
 use Rattle.std.proofs.lemmas.Bool.{le-leb, leb-true, cases_Bool, cond-true, cond-false}
 use Rattle.lines.specs.Writes.{overwrite}
 use Rattle.lines.proofs.Writes.{over_append, over_is}
@@ -49,10 +45,17 @@ length_file number nodes demands rows slots =
       length_each UnitFrame (λ r. refl) rows,
     )
 
+-- the frames of a plan as far as some demands, and as far as some rows
+abbrev pub demands_so_far : ℕ → ℕ → List Demand → List Frame
+demands_so_far number nodes demands = (RingFrame (record { number = number; nodes = nodes }) ∷ []) ++ map DemandFrame demands
+
+abbrev pub rows_so_far : ℕ → ℕ → List Demand → List Row → List Frame
+rows_so_far number nodes demands rows = demands_so_far number nodes demands ++ map UnitFrame rows
+
 -- the frames of a plan, joined one part after another
 abbrev pub joined : ℕ → ℕ → List Demand → List Row → ℕ → List Frame
 joined number nodes demands rows slots =
-    (((RingFrame (record { number = number; nodes = nodes }) ∷ []) ++ map DemandFrame demands) ++ map UnitFrame rows) ++ (EndFrame (record { demands = length demands; units = length rows; slots = slots }) ∷ [])
+    rows_so_far number nodes demands rows ++ (EndFrame (record { demands = length demands; units = length rows; slots = slots }) ∷ [])
 
 pub joined_is : (number nodes : ℕ) (demands : List Demand) (rows : List Row) (slots : ℕ) → joined number nodes demands rows slots ≡ plan_frames number nodes demands rows slots
 joined_is number nodes demands rows slots = append_assoc (RingFrame (record { number = number; nodes = nodes }) ∷ map DemandFrame demands) (map UnitFrame rows) _
@@ -72,13 +75,13 @@ over_more bytes fs f b b' at e n k =
 pub length_more : (fs : List Frame) (f : Frame) (at next : ℕ) → at ≡ length (flat_map frame_text fs) → next ≡ at + length (frame_text f) → next ≡ length (flat_map frame_text (fs ++ f ∷ []))
 length_more fs f at next e n = omega (arith, ap length (joined_one fs f), length-append (flat_map frame_text fs) (frame_text f))
 
--- the next frame of a chain has room where all of them have
-pub next_fits : {S : Type 0} {steps : S → Option Frame → S → Type 0} {s : S} {all : List Frame} (e : YieldsList steps (λ x. x) s all) (xs : List Frame) (t : S) (y : Yields steps s xs t) (r : Option Frame) (u : S) (f : Frame) → r ≡ Some f → steps t r u → length (flat_map frame_text xs) + length (frame_text f) ≤ length (flat_map frame_text all)
-next_fits {all = all} e xs t y r u f is step =
-    let turn = YieldsList-turn e xs t y r u f is step in
-    let so_far : xs ≡ take (length xs) all = sym (map-id xs) ∙ YieldsList-so_far e xs t y in
-    let room = length-flat_map-take frame_text all (length xs) f turn.0 in
-    omega (arith, room, ap (λ fs. length (flat_map frame_text fs)) so_far, ap (λ g. length (frame_text g)) turn.1)
+-- one more of the frames that are made of the elements of a list, and all of them
+module _ {X : Type 0} (front : List Frame) (make : X → Frame) (xs : List X) (i : ℕ) where
+  pub so_far_more : (d : X) → i < length xs → (front ++ map make (take i xs)) ++ (make (get_or xs i d) ∷ []) ≡ front ++ map make (take (i + 1) xs)
+  so_far_more d lt = append_assoc front (map make (take i xs)) (make (get_or xs i d) ∷ []) ∙ ap (λ fs. front ++ fs) (sym (map_more make xs i d lt))
+
+  pub so_far_all : length xs ≤ i → front ++ map make (take i xs) ≡ front ++ map make xs
+  so_far_all le = ap (λ ys. front ++ map make ys) (take_all i xs le)
 
 -- the answer of writing a text, and what the bytes hold
 module _ (text old : List ℕ) where

@@ -13,7 +13,6 @@ ghost use Rattle.planwrite.specs.Backs.{ReadsBack};
 use frames::{Frame, Heading, Totals};
 use lines::put_line;
 use ring::{Demand, Refusal, Row};
-use std::iter::once;
 
 /// A plan as its file tells it: the number of its book, the size of its ring, and its demands and rows, of each so few that two bytes count them.
 #[derive(Clone, Copy)]
@@ -27,7 +26,8 @@ pub struct PlanFile<'a> {
 }
 
 /// Writes the line of a frame from a place on, and answers the place after it.
-// Kept: into the caller's bytes, and no `Display`, for the reason that `lines::put_line` has.
+// Kept: into the caller's bytes, and no `Display`, for the reason that `lines::put_line` has. Inlined, since the caller knows the kind, and with it the length of the line.
+#[inline(always)]
 fn put_frame(bytes: &mut [u8], at: usize, frame: Frame) -> usize
     requires { at + length (frame_text frame) ≤ length bytes.old }
     ensures written { bytes.new ≡ overwrite bytes.old at (frame_text frame) }
@@ -87,15 +87,15 @@ impl PlanFile<'_> {
             units: self.rows.len() as u16,
             slots,
         };
-        let frames = once(Frame::RingFrame(heading))
-            .chain(self.demands.iter().map(|d| Frame::DemandFrame(*d)))
-            .chain(self.rows.iter().map(|r| Frame::UnitFrame(*r)))
-            .chain(once(Frame::EndFrame(totals)));
-        let mut place = 0;
-        // Kept: each frame begins where the one before ended; a `fold` would carry the same place, and write the bytes from inside its closure.
-        for frame in frames {
-            place = put_frame(bytes, place, frame);
+        let mut place = put_frame(bytes, 0, Frame::RingFrame(heading));
+        // Kept: two loops; one over a chain of all frames asks for each frame which part of the chain it is from, and then of which kind it is.
+        for d in self.demands {
+            place = put_frame(bytes, place, Frame::DemandFrame(*d));
         }
+        for row in self.rows {
+            place = put_frame(bytes, place, Frame::UnitFrame(*row));
+        }
+        put_frame(bytes, place, Frame::EndFrame(totals));
         Ok(length)
     }
 }

@@ -133,14 +133,12 @@ impl Refusal {
             | Refusal::NoLink => (None, None),
         }
     }
-}
 
-impl fmt::Display for Refusal {
-    ghost output = { λ refusal. Some (cause_words refusal) };
-
-    /// Writes the cause in plain words.
-    fn fmt<W: fmt::Write>(&self, f: &mut fmt::Formatter<W>) -> fmt::Result {
-        f.write_str(match self {
+    /// The cause in plain words. They are there without asking for memory.
+    pub fn words(self) -> &'static str
+        ensures { result.now ≡ cause_words self }
+    {
+        match self {
             Refusal::RingSize => "the ring size is not 3 to 16",
             Refusal::Planned => "the book is planned",
             Refusal::Unplanned => "the book has no plan",
@@ -169,7 +167,16 @@ impl fmt::Display for Refusal {
             Refusal::CountWrong { .. } => "the demand has not as many rows as units",
             Refusal::NoWeight { .. } => "the weight of a link is 0",
             Refusal::NoLink => "the link to shut is not 1 to 16",
-        })
+        }
+    }
+}
+
+impl fmt::Display for Refusal {
+    ghost output = { λ refusal. Some (cause_words refusal) };
+
+    /// Writes the cause in plain words.
+    fn fmt<W: fmt::Write>(&self, f: &mut fmt::Formatter<W>) -> fmt::Result {
+        f.write_str(self.words())
     }
 }
 

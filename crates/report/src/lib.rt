@@ -115,9 +115,10 @@ impl fmt::Display for RefusedPlan<'_> {
 pub fn report(heap: Global, text: &[u8]) -> Result<String, AllocError>
     ensures { IfOk result (λ printed. string_bytes printed ≡ reported text.now) }
 {
-    let mut lines = vec![in heap; Demand::default(); 256]?;
-    let mut rows = vec![in heap; Row::default(); 2048]?;
-    let mut sheet = vec![in heap; 0u16; 1024]?;
+    // Kept: arrays, so that memory is asked for only to hold what is printed.
+    let mut lines = [Demand::default(); 256];
+    let mut rows = [Row::default(); 2048];
+    let mut sheet = [0u16; 1024];
     match take_file(text, &mut lines, &mut rows, &mut sheet) {
         Ok(taken) => PassedPlan(taken).to_string(heap),
         Err(fault) => RefusedPlan { text, fault }.to_string(heap),

@@ -2,7 +2,7 @@
 use Rattle.std.proofs.Common.{◌≡◌, ℕ, zero, suc, ◌+◌, ◌-◌, ◌<◌, ◌≤◌, Bool, true, false, cond, eqb, ltb, List, [], ◌∷◌, ◌++◌, map, length, Option, None, Some, get_or, Ordering, Less, Equal, Greater, sym, refl, ap, ◌∙◌, subst, ap₂, arith}
 use Rattle.std.specs.List.{range_with_len, IsFirstBest, best_of, fold}
 use Rattle.std.specs.Iterator.Runs.{Run}
-use Rattle.std.specs.Option.{MatchOption, option_map}
+use Rattle.std.specs.Option.{MatchOption, IfSome, IsSomeAnd, option_map}
 use Rattle.std.specs.Cmp.{IsTotalOrder, IsStrictWeakOrder}
 use Rattle.std.specs.Ordering.{is_lt, nat_cmp}
 use Rattle.std.proofs.lemmas.List.MinMax.{ranks_by, IsStrictWeakOrder-by_number, IsStrictWeakOrder-flip, IsFirstBest-from_best_of}
@@ -11,6 +11,7 @@ use Rattle.std.proofs.lemmas.List.{get_or_default, ext_get_or, map-append}
 use Rattle.std.proofs.lemmas.List.Sums.{fold-append}
 use Rattle.std.proofs.lemmas.Bool.{ltb-true, ltb-false}
 use Rattle.std.specs.declared.cmp.Reverse.{Reverse}
+use denote.Ref.{Bor}
 use Rattle.ring.specs.declared.choosing.Best.{Best}
 use Rattle.ring.specs.Choosing.{beats, kept, first_best, FirstBest, first_from, first_least, first_most, FirstLeast, FirstMost}
 
@@ -42,6 +43,45 @@ kept_more cmp mk a i =
     counting_end : (a m : ℕ) → range_with_len a m ++ (a + m) ∷ [] ≡ range_with_len a (suc m)
     counting_end a zero = let e : a + 0 ≡ a = omega arith in ap (λ x. x ∷ []) e
     counting_end a (suc m) = let e : a + suc m ≡ a + 1 + m = omega arith in ap (λ x. a ∷ (range_with_len (a + 1) m ++ x ∷ [])) e ∙ ap (λ xs. a ∷ xs) (counting_end (a + 1) m)
+
+-- ---- candidates that are lent
+-- a reference to a candidate, with one to its measure
+abbrev Lent : Type 0 → Type 0 → Type 0
+Lent C M = Best (Bor (Best C M)) (Bor M)
+
+-- at one place, y is what was made of a reference to z
+pub lent_at : {C M : Type 0} (makes : Bor (Best C M) → Lent C M → Type 0) →
+    ((x : Bor (Best C M)) (y : Lent C M) → makes x y → (y.candidate ≡ x) × (y.measure.now ≡ x.now.measure)) →
+    (o : Option (Lent C M)) (s : Option (Bor (Best C M))) (y : Lent C M) (z : Best C M) →
+    option_map (λ v. v) o ≡ Some y → option_map (λ v. v.now) s ≡ Some z → IfSome o (λ v. IsSomeAnd s (λ x. makes x v)) →
+    (y.candidate.now ≡ z) × (y.measure.now ≡ z.measure)
+lent_at makes means None s y z ho hs h = cc
+lent_at makes means (Some v) None y z ho hs h = cc
+lent_at makes means (Some v) (Some x) y z ho hs h = let is = means x v h in (cc, cc)
+
+-- the first best of what is lent is lent of the first best
+pub lent_first : {C M : Type 0} (cmp : M → M → Ordering) (all : List (Best C M)) (items : List (Lent C M)) → length items ≡ length all →
+    ((k : ℕ) (y : Lent C M) (z : Best C M) → k < length items → ((get_or items k y).candidate.now ≡ get_or all k z) × ((get_or items k y).measure.now ≡ (get_or all k z).measure)) →
+    (x : Lent C M) → FirstBest (λ v w. cmp v.now w.now) items x → FirstBest cmp all x.candidate.now
+lent_first {C = C} {M = M} cmp all items long at x first =
+    let b = first.0 in
+    let low : b < length all = omega (arith, first.1, long) in
+    let same : (k j : ℕ) (z : Best C M) → k < length all → j < length all →
+    beats (λ (v w : Bor M). cmp v.now w.now) (get_or items k x) (get_or items j x) ≡ beats cmp (get_or all k z) (get_or all j z) =
+    λ k j z lk lj. ap₂ (λ v w. is_lt (cmp v w)) (at k x z (omega arith)).1 (at j x z (omega arith)).1 in (
+      b,
+      low,
+      sym (at b x x.candidate.now first.1).0 ∙ ap (λ (w : Lent C M). w.candidate.now) first.2,
+      (low, (λ k z l. sym (same k b z l low) ∙ first.3.1 k x (omega arith)), (λ k z l. sym (same b k z low (omega arith)) ∙ first.3.2 k x l)),
+    )
+
+-- what is said of an answer that is made of another
+pub answered : {A B : Type 0} (P S : Type 0) (Q : A → Type 0) (T : B → Type 0) (makes : A → B → Type 0) → (P → S) → ((x : A) (y : B) → makes x y → Q x → T y) →
+    (o : Option A) (r : Option B) → MatchOption o (r ≡ None) (λ x. IsSomeAnd r (makes x)) → MatchOption o P Q → MatchOption r S T
+answered P S Q T makes none some None None made h = none h
+answered P S Q T makes none some None (Some y) made h = cc
+answered P S Q T makes none some (Some x) None made h = absurd made
+answered P S Q T makes none some (Some x) (Some y) made h = some x y made h
 
 -- ---- the first of a to b that none of the others beats
 -- the numbers a to b

@@ -136,8 +136,9 @@ fn print_best(rt: &HostRuntime, traffic: &Traffic) -> anyhow::Result<()> {
 
 /// Prints what a rule makes of the demands: their routes, the loads of the links, and a plan.
 fn print_rule<R: Rule>(rt: &HostRuntime, traffic: &Traffic, rule: &R) -> anyhow::Result<()> {
-    let mut places = vec![in rt.alloc(); Route::default(); traffic.demands.len()]?;
-    let routes = places.as_mut_slice();
+    // Kept: an array, so that the routes and their loads are printed before any memory is asked for.
+    let mut places = [Route::default(); 128];
+    let routes = &mut places[..traffic.demands.len()];
     choose_routes(traffic.nodes, traffic.demands, rule, routes);
     print_routes(rt, routes)?;
     print_loads(rt, routes)?;

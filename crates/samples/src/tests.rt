@@ -2,7 +2,7 @@
 
 use bounds::cuts::{RingDemands, cut_total};
 use bounds::loads::RingRoutes;
-use ring::choosing::{Best, first_best};
+use ring::choosing::{Best, first_best, first_best_of};
 use ring::slots::slot_count;
 use ring::{Cut, Demand, Refusal, Route, Row, Side};
 use rules::shut::ShutLink;
@@ -228,10 +228,42 @@ fn the_first_of_equals_is_best(rt: HostRuntime) -> Result<(), Fail> {
             measure: 1u16,
         },
     ];
-    let best = first_best(all.iter().copied()).ok_or("some")?;
+    let best = first_best(&all).ok_or("some")?;
     assert_eq!(rt; best.candidate, 'b');
-    assert!(rt; first_best(all[0..0].iter().copied()).is_none());
+    assert!(rt; first_best(&all[0..0]).is_none());
+    let best = first_best_of(all.iter().copied()).ok_or("some")?;
+    assert_eq!(rt; best.candidate, 'b');
+    assert!(rt; first_best_of(all[0..0].iter().copied()).is_none());
     Ok(())
+}
+
+/// What can be neither copied nor let go.
+struct Named {
+    name: &'static str,
+}
+
+#[test]
+fn the_first_best_of_candidates_that_must_stay(rt: HostRuntime) {
+    let all = [
+        Best {
+            candidate: Named { name: "two" },
+            measure: 2u16,
+        },
+        Best {
+            candidate: Named { name: "one" },
+            measure: 1u16,
+        },
+        Best {
+            candidate: Named { name: "one again" },
+            measure: 1u16,
+        },
+    ];
+    let name = first_best(&all).map(|best| best.candidate.name);
+    let [two, one, again] = all;
+    let Named { name: _ } = two.candidate;
+    let Named { name: _ } = one.candidate;
+    let Named { name: _ } = again.candidate;
+    assert_eq!(rt; name, Some("one"));
 }
 
 #[test]
@@ -242,7 +274,7 @@ fn the_first_best_of_candidates_elsewhere(rt: HostRuntime) -> Result<(), Fail> {
         candidate: name,
         measure,
     });
-    let best = first_best(all).ok_or("some")?;
+    let best = first_best_of(all).ok_or("some")?;
     assert_eq!(rt; *best.candidate, "one");
     Ok(())
 }

@@ -19,12 +19,19 @@ use sheet::Guard;
 /// The marks that a sheet needs: one for each slot that a plan may have.
 const MARKS: usize = 1024;
 
+/// The units of a demand.
+fn units_in(d: &Demand) -> usize
+    ensures { result ≡ d.now.units }
+{
+    usize::from(d.units)
+}
+
 /// All units of the demands.
 pub fn count_units(demands: &[Demand]) -> usize
     requires { units demands.now ≤ 1024 }
     ensures { result ≡ units demands.now }
 {
-    demands.iter().map(|d| usize::from(d.units)).sum()
+    demands.iter().map(units_in).sum()
 }
 
 /// Draws the rows on marks that need not be blank, and leaves them as they come.

@@ -10,7 +10,7 @@ ghost use Rattle.slotting.specs.Answers.{Draws, DrawsShut, Tries};
 use crate::drawing::draw;
 use crate::{BestLink, Traffic};
 use placing::rows::PlanRows;
-use ring::choosing::{Best, keep_first_best};
+use ring::choosing::{Best, first_best};
 use ring::{Figures, Refusal};
 use rules::shut::ShutLink;
 
@@ -38,19 +38,19 @@ fn try_links(traffic: &Traffic, sheet: &mut [u16], rows: &mut PlanRows) -> Resul
     ensures room { rows.new.capacity ≡ rows.old.capacity }
     ensures blank { Blank sheet.new (length sheet.old) }
 {
-    // Kept: a `try_fold` would carry the best in the same way, and draw from inside its closure, of which a proof then learns nothing about the rows.
-    let mut best = None;
+    // Kept: a loop that fills places of an array, so that the choice is `first_best`'s; a `map` over the links would draw from inside its closure, of which a proof then learns nothing about the rows.
+    let mut trials = [Best {
+        candidate: 0u8,
+        measure: 0u16,
+    }; 16];
     for link in 1..=traffic.nodes {
         let trial = draw_shut(traffic, link, sheet, rows)?;
-        best = keep_first_best(
-            best,
-            Best {
-                candidate: link,
-                measure: trial.slots,
-            },
-        );
+        trials[usize::from(link) - 1] = Best {
+            candidate: link,
+            measure: trial.slots,
+        };
     }
-    match best {
+    match first_best(&trials[..usize::from(traffic.nodes)]) {
         Some(best) => Ok(best.candidate),
         None => unreachable(),
     }

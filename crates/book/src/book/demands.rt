@@ -54,7 +54,7 @@ impl Book {
     pub fn enter(&mut self, number: u16, a: u8, b: u8, units: u8) -> Result<(), Refusal>
         ensures { Does self.old (Enter number a b units) (answered result) self.new }
     {
-        self.must_be_open()?;
+        self.must_be_open()?; // a demand comes into an open book only
         let demand = check_entry(self.size, self.demands.as_slice(), number, a, b, units)?;
         self.demands.push_reserved(demand);
         Ok(())

@@ -1,10 +1,14 @@
-use Rattle.std.proofs.Common.{take}
-use Rattle.std.specs.List.{flat_map}
+use Rattle.std.proofs.Common.{◌≡◌, ℕ, List, ◌++◌}
 use Rattle.std.specs.Fmt.{HasWritten, IsPlainFormatter}
-use Rattle.keylines.specs.KeyLines.{shown_byte}
+use Rattle.std.specs.Slice.Iter.{chunks_rest, chunks_size}
+use Rattle.keylines.specs.KeyLines.{shown_bytes}
 use Rattle.keylines.proofs.ShownDisplay.fmt.Given as goal
 
--- what was written so far
-abbrev pub invariant-loop-byte : goal.invariant-loop-byte
-invariant-loop-byte g l =
-    IsPlainFormatter l.initial.f → HasWritten g.W.Write.write_str_gives l.initial.f (flat_map shown_byte (take l.byte-index l.byte-items)) l.f
+-- what was written so far, before what is shown of the chunks to come
+abbrev pub invariant-loop-chunk : goal.invariant-loop-chunk
+invariant-loop-chunk g l =
+    (goal.iterator-loop-chunk g).can_next l.chunk-iterator
+    × (goal.iterator-loop-chunk g).is_finite l.chunk-iterator
+    × (chunks_size l.chunk-iterator ≡ 256)
+    × (IsPlainFormatter l.initial.f → (done : List ℕ) × HasWritten g.W.Write.write_str_gives l.initial.f done l.f
+    × (done ++ shown_bytes (chunks_rest l.chunk-iterator) ≡ shown_bytes l.fn.self.0.now))

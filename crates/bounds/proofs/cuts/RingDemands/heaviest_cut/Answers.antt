@@ -12,15 +12,15 @@ use Rattle.ring.proofs.FirstBest.{first_by_most, counted}
 use Rattle.bounds.specs.Measures.{heavy_cut}
 use Rattle.bounds.proofs.Heaviest.{heaviest_is}
 use Rattle.bounds.proofs.cuts.RingDemands.heaviest_cut.Goals as goal
-use Rattle.bounds.proofs.cuts.RingDemands.heaviest_cut.Goals.{After-first_best}
+use Rattle.bounds.proofs.cuts.RingDemands.heaviest_cut.Goals.{After-first_best_of}
 
 -- the cuts are the heaviest of the links 1 to n - 1 with links after them
-best : (c : After-first_best) → c.first_best.result ≡ Some (heavy_cut (heaviest_cut c.args.self.now.nodes c.args.self.now.demands.now))
+best : (c : After-first_best_of) → c.first_best_of.result ≡ Some (heavy_cut (heaviest_cut c.args.self.now.nodes c.args.self.now.demands.now))
 best c =
     let n = c.args.self.now.nodes in
     let ds = c.args.self.now.demands.now in
     let mk : ℕ → Best Cut (Reverse ℕ) = λ e. heavy_cut (cut_at ds e (heaviest_after n ds e)) in
-    let run = c.first_best.ensures in
+    let run = c.first_best_of.ensures in
     let firsts = c.map-cuts.ensures.runs run.0 run.0.seen run.1 in
     let many : firsts.0.len ≡ n - 1 + 1 - 1 = search (rules, ranges) in
     let each : (k : ℕ) → k < firsts.0.len → option_map (λ y. y) (firsts.0.at k) ≡ Some (1 + k) = search (rules, ranges) in
@@ -35,7 +35,7 @@ pub returns : goal.returns
 returns c =
     let n = c.args.self.now.nodes in
     let ds = c.args.self.now.demands.now in
-    let e = best (goal.at.returns c).After-first_best in
+    let e = best (goal.at.returns c).After-first_best_of in
     let one : c.unwrap.result ≡ heavy_cut (heaviest_cut n ds) = cc in
     let is : c.unwrap.result.candidate ≡ heaviest_cut n ds = ap (λ (b : Best Cut (Reverse ℕ)). b.candidate) one in
     record {
