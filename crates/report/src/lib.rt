@@ -14,6 +14,22 @@ use ring::{Demand, Refusal, Row};
 use std::alloc::{AllocError, Global};
 use std::fmt;
 
+// Kept: fillers as constants; an array of `Row::default()` is filled row by row when it runs, which took half as long again for a small file.
+/// A place for a demand line, to be filled.
+const NO_DEMAND: Demand = Demand {
+    number: 0,
+    lower: 0,
+    upper: 0,
+    units: 0,
+};
+
+/// A place for a row, to be filled.
+const NO_ROW: Row = Row {
+    demand: 0,
+    side: 0,
+    slot: 0,
+};
+
 /// An entry with a number.
 fn known(key: Key, number: usize) -> Entry
     ensures { result ≡ known key number }
@@ -116,8 +132,8 @@ pub fn report(heap: Global, text: &[u8]) -> Result<String, AllocError>
     ensures { IfOk result (λ printed. string_bytes printed ≡ reported text.now) }
 {
     // Kept: arrays, so that memory is asked for only to hold what is printed.
-    let mut lines = [Demand::default(); 256];
-    let mut rows = [Row::default(); 2048];
+    let mut lines = [NO_DEMAND; 256];
+    let mut rows = [NO_ROW; 2048];
     let mut sheet = [0u16; 1024];
     match take_file(text, &mut lines, &mut rows, &mut sheet) {
         Ok(taken) => PassedPlan(taken).to_string(heap),
